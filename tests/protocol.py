@@ -21,8 +21,9 @@ Vote = namedtuple("Vote", "instance incarnation yes")
 Verdict = namedtuple("Verdict", "instance yes")
 Act = namedtuple("Act", "node by what worker number op answer", defaults=[None])
 Cut = namedtuple("Cut", "node keep")
-# what is stored: how long the node's line is, its labels, and its state
-Ckpt = namedtuple("Ckpt", "keep sent received state")
+# what is stored: how long the node's line is, its labels, its state, and the numbers of its line, which the checkpoint
+# that a node begins with has not
+Ckpt = namedtuple("Ckpt", "keep sent received state line", defaults=[None])
 # a worker: its answers, and how many requests it made; a shard: tuples, who waits with what, the last answers
 Worker = namedtuple("Worker", "answers made")
 Shard = namedtuple("Shard", "bag waiting kept")
@@ -55,7 +56,7 @@ class Node:
         self.first, self.count, self.kept, self.ballot = {}, 0, [], None
 
     def ckpt(self):
-        return Ckpt(len(self.line), dict(self.sent), dict(self.received), self.state)
+        return Ckpt(len(self.line), dict(self.sent), dict(self.received), self.state, tuple(self.line))
 
     def cohort(self):
         had = self.permanent.received
@@ -74,7 +75,8 @@ class World:
         self.shards, self.scripts, self.kinds = shards, dict(zip(workers, scripts)), dict(zip(workers, kinds))
         self.nodes = {w: Node(w, servers) for w in workers} | {s: Node(s, workers) for s in servers}
         self.links = {(p, q): [] for p, node in self.nodes.items() for q in node.peers}
-        self.notes, self.board = [], {}
+        # `written` are the nodes of which anything was ever stored
+        self.notes, self.board, self.written = [], {}, set()
 
     # -- what steps have in common
 
@@ -114,6 +116,7 @@ class World:
 
     def hold(self, node, instance, parent, asker):
         node.tentative = (node.ckpt(), instance)
+        self.written.add(node.name)
         node.mode = "Held"
         node.ballot = Ballot("check", instance, parent, asker, node.cohort())
         self.ask_all(node, node.received)
@@ -144,6 +147,7 @@ class World:
             node.tentative = None
         elif yes:
             node.incarnation += 1
+            self.written.add(node.name)
             self.note(Cut(node.name, node.permanent.keep))
             node.load()
         node.mode, node.ballot = "Up", None
@@ -398,5 +402,6 @@ class World:
         if not is_rolling and (node.tentative or self.own_open(node) is not None):
             return UNRESOLVED
         node.incarnation += 1
+        self.written.add(node.name)
         node.load()
         self.roll(node, self.begin(node.name), None, None)

@@ -2,10 +2,10 @@
 
 from on_program.starting import CLOSED, FOLDER, FULL, NOBODY, ROOT, Starts, scenario, start, tell
 from on_program.texts import (
-    AGAIN, ANSWERED_AGAIN, A_SHARD_FAILS, BAG_OF_TASKS, CHECKPOINT_OF_TWO, HEAD, HELP, HELP_OF_MIGRATE, HELP_OF_REPLAY,
-    HELP_OF_RUN, LOST, NINE, NOBODY_FAILS, NO_STEPS, ONE_OF_NINE, ONE_OF_SIXTEEN, ONE_PUT, PUT_AND_TAKE, REFUSED_NINTH,
-    SHARD_FAILS, SHARD_OF_SIGNATURE, SIXTEEN, THREE_PUT, THREE_SHARDS, THREE_TRUTHS, TO_FAILURE, TO_SHARD, TRUTHS,
-    TWO_TAKERS, UNLESS_SKIPS, UNRESOLVED, VERSION, crowd, putting,
+    AGAIN, ANSWERED_AGAIN, A_SHARD_FAILS, BAG_OF_TASKS, CHECKPOINT_OF_TWO, HEAD, HELP, HELP_OF_MIGRATE,
+    HELP_OF_REPLAY, HELP_OF_RESUME, HELP_OF_RUN, LOST, NINE, NOBODY_FAILS, NO_STEPS, ONE_OF_NINE, ONE_OF_SIXTEEN,
+    ONE_PUT, PUT_AND_TAKE, REFUSED_NINTH, SHARD_FAILS, SHARD_OF_SIGNATURE, SIXTEEN, THREE_PUT, THREE_SHARDS,
+    THREE_TRUTHS, TO_FAILURE, TO_SHARD, TRUTHS, TWO_TAKERS, UNLESS_SKIPS, UNRESOLVED, VERSION, crowd, putting,
 )
 
 # ---- the table: name, words, input, output, standard error, status. An input or output that is a str is
@@ -96,7 +96,8 @@ CASES = [
     ("short help", ["-h"], b"", HELP, b"", 0),
     ("help of a command", ["replay", "--help"], b"", HELP_OF_REPLAY, b"", 0),
     ("help of the other", ["run", "-h"], b"", HELP_OF_RUN, b"", 0),
-    ("help of the third", ["migrate", "--help"], b"", HELP_OF_MIGRATE, b"", 0),
+    ("help of the third", ["resume", "--help"], b"", HELP_OF_RESUME, b"", 0),
+    ("help of the fourth", ["migrate", "--help"], b"", HELP_OF_MIGRATE, b"", 0),
     ("version", ["--version"], b"", VERSION, b"", 0),
     ("short version", ["-V"], b"", VERSION, b"", 0),
     ("version to a full output", ["--version"], b"", FULL, b"write\n", 7),
@@ -111,6 +112,14 @@ CASES = [
      Starts("error: unexpected argument '--journal' found"), 2),
     ("a file that is to be carried over, but which", ["migrate"], b"", b"",
      Starts("error: the following required arguments were not provided:"), 2),
+    ("a file to go on from, but which", ["resume"], b"", b"",
+     Starts("error: the following required arguments were not provided:"), 2),
+    ("a run that is to go on from a file, but which", ["run", "--resume"], b"", b"",
+     Starts("error: the argument '--resume' wants '--store <FILE>'"), 2),
+    ("flags that are none of resume", ["resume", "--store", "a.db", "--journal"], b"", b"",
+     Starts("error: unexpected argument '--journal' found"), 2),
+    ("a flag that is none of replay", ["replay", "--resume"], b"", b"",
+     Starts("error: unexpected argument '--resume' found"), 2),
     ("a flag that is none of migrate", ["migrate", "--store", "a.db", "--journal"], b"", b"",
      Starts("error: unexpected argument '--journal' found"), 2),
     ("a flag twice", ["run", "--journal", "--journal"], b"", b"",

@@ -166,6 +166,8 @@ HELP = report(
     "  replay   Makes the steps of the scenario on standard input and writes the report to standard output",
     "  run      Runs the scenario on standard input, by a thread for each node, and writes the report to standard"
     " output",
+    "  resume   Goes on from a store after the program was stopped: makes the steps of the scenario on standard input and"
+    " writes the report to standard output",
     "  migrate  Carries a store of version 1 over, by the journal on standard input that made it, and writes the report"
     " to standard output",
     "",
@@ -189,7 +191,20 @@ HELP_OF_RUN = report(
     "",
     "Options:",
     "      --store <FILE>  Keeps the checkpoints in FILE, which is absent, empty or a fresh store",
-    "      --journal       Writes the report as remarks, and then the steps that were made, as a scenario for replay",
+    "      --journal       Writes the report as remarks, and then the steps that were made, as a scenario for replay or"
+    " resume",
+    "      --resume        Goes on from what FILE holds, after the program was stopped; it need not be fresh then",
+    "  -h, --help          Print help",
+)
+HELP_OF_RESUME = report(
+    "Goes on from a store after the program was stopped: makes the steps of the scenario on standard input and writes"
+    " the report to standard output",
+    "",
+    "Usage: linda_kt resume --store <FILE>",
+    "",
+    "Options:",
+    "      --store <FILE>  The store to go on from; one that is absent, empty or fresh was stopped before its first"
+    " write",
     "  -h, --help          Print help",
 )
 HELP_OF_MIGRATE = report(

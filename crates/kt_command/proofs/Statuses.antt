@@ -3,6 +3,7 @@ use Rattle.std.proofs.Common.{◌≡◌, ℕ, Result, Ok, Err, refl, ap, subst}
 use Rattle.std.specs.Prelude.{OnOk, IfErr}
 use Rattle.kt_store.specs.Stored.{Stored}
 use Rattle.kt_core.specs.Store.{StoreValue}
+use Rattle.kt_core.specs.declared.start.Start.{Start}
 use Rattle.kt_scene.specs.declared.fault.ReplayFault.{ReplayFault}
 use Rattle.kt_scene.specs.declared.fault.ReplayFault.TheVariants as faults
 use Rattle.kt_scene.specs.Outside.{Reader, Writer}
@@ -16,13 +17,14 @@ use Rattle.kt_command.specs.declared.command.Command.{Command}
 use Rattle.kt_command.specs.Answers.{answer_status, run_answer_status}
 use Rattle.kt_command.specs.Status.{EndsCommand, EndsInMemory, EndsOver, EndsRun, LeavesRunWriter, fresh_memory, memory_value, done, ran, refused, stopped}
 
-module _ (was left : StoreValue) where
+module _ (start : Start) (was left : StoreValue) where
   -- what a fault leaves of the writer, by its case
   leaves_writer : (before after : Reader) (old new : Writer) (fault : ReplayFault) → UnlessWrite fault (new ≡ old)
-      → (fault ≡ faults.Write → WritesReplayedFront was left before after old new) → LeavesWriter was left before after old new fault
+      → (fault ≡ faults.Write → WritesReplayedFront start was left before after old new) → LeavesWriter start was left before after old new fault
   leaves_writer before after old new (faults.Scene line cause) kept front = kept
   leaves_writer before after old new (faults.Step at cause) kept front = kept
   leaves_writer before after old new (faults.Open cause) kept front = kept
+  leaves_writer before after old new (faults.Resume cause) kept front = kept
   leaves_writer before after old new (faults.Report cause) kept front = kept
   leaves_writer before after old new faults.Memory kept front = kept
   leaves_writer before after old new faults.Read kept front = kept
@@ -30,21 +32,22 @@ module _ (was left : StoreValue) where
 
   -- the status of what a replay over a store answers
   pub status_told : {X : Type 0} (before after : Reader) (old new : Writer) (answer : Result X ReplayFault) (n : ℕ)
-      → n ≡ answer_status answer → OnOk answer (WritesReplayed was left before after old new)
-      → (answer ≡ Err faults.Write → WritesReplayedFront was left before after old new)
-      → IfErr answer (IsReplayFault was left before after) → IfErr answer (λ fault. UnlessWrite fault (new ≡ old))
-      → EndsOver was left before after old new n
+      → n ≡ answer_status answer → OnOk answer (WritesReplayed start was left before after old new)
+      → (answer ≡ Err faults.Write → WritesReplayedFront start was left before after old new)
+      → IfErr answer (IsReplayFault start was left before after) → IfErr answer (λ fault. UnlessWrite fault (new ≡ old))
+      → EndsOver start was left before after old new n
   status_told before after old new (Ok x) n is written front fault nothing = done is written
   status_told before after old new (Err why) n is written front fault nothing =
       refused why fault (leaves_writer before after old new why nothing (λ same. front (ap (λ (f : ReplayFault). Err f) same))) is
 
   -- the same of a run
   leaves_run_writer : (output : Output) (before after : Reader) (old new : Writer) (fault : RunTextFault) → UnlessFront fault (new ≡ old)
-      → (fault ≡ texts.Text faults.Write → WritesRunFront was left output before after old new)
-      → LeavesRunWriter was left output before after old new fault
+      → (fault ≡ texts.Text faults.Write → WritesRunFront start was left output before after old new)
+      → LeavesRunWriter start was left output before after old new fault
   leaves_run_writer output before after old new (texts.Text (faults.Scene line cause)) kept front = kept
   leaves_run_writer output before after old new (texts.Text (faults.Step at cause)) kept front = kept
   leaves_run_writer output before after old new (texts.Text (faults.Open cause)) kept front = kept
+  leaves_run_writer output before after old new (texts.Text (faults.Resume cause)) kept front = kept
   leaves_run_writer output before after old new (texts.Text (faults.Report cause)) kept front = kept
   leaves_run_writer output before after old new (texts.Text faults.Memory) kept front = kept
   leaves_run_writer output before after old new (texts.Text faults.Read) kept front = kept
@@ -53,10 +56,10 @@ module _ (was left : StoreValue) where
 
   -- the status of what a run over a store answers
   pub run_told : {X : Type 0} (output : Output) (before after : Reader) (old new : Writer) (answer : Result X RunTextFault) (n : ℕ)
-      → n ≡ run_answer_status answer → OnOk answer (WritesRun was left output before after old new)
-      → (answer ≡ Err (texts.Text faults.Write) → WritesRunFront was left output before after old new)
-      → IfErr answer (IsRunTextFault was left before after) → IfErr answer (λ fault. UnlessFront fault (new ≡ old))
-      → EndsRun was left output before after old new n
+      → n ≡ run_answer_status answer → OnOk answer (WritesRun start was left output before after old new)
+      → (answer ≡ Err (texts.Text faults.Write) → WritesRunFront start was left output before after old new)
+      → IfErr answer (IsRunTextFault start was left before after) → IfErr answer (λ fault. UnlessFront fault (new ≡ old))
+      → EndsRun start was left output before after old new n
   run_told output before after old new (Ok x) n is written front fault nothing = ran is written
   run_told output before after old new (Err why) n is written front fault nothing =
       stopped why fault (leaves_run_writer output before after old new why nothing (λ same. front (ap (λ (f : RunTextFault). Err f) same))) is

@@ -6,6 +6,7 @@ use Rattle.kt_scene.specs.declared.fault.ReplayFault.{ReplayFault}
 use Rattle.kt_scene.specs.declared.fault.ReplayFault.TheVariants.{Write}
 use Rattle.kt_scene.specs.Outside.{Reader, Writer}
 use Rattle.kt_scene.specs.Run.{IsReplayedReport, IsReplayFault, WritesReplayed, WritesReplayedFront}
+use Rattle.kt_core.specs.declared.start.Start.TheVariants as starts
 use Rattle.kt_command.specs.Command.{Text}
 use Rattle.kt_command.specs.Status.{fresh_memory, memory_value, status_of}
 
@@ -15,16 +16,16 @@ use Rattle.kt_command.specs.Status.{fresh_memory, memory_value, status_of}
 pub data EndsCarrying {C F : Type 0} (carries : C → Content → Result (Unit {0}) F → Type 0) (connection : C)
     (before after : Reader) (old new : Writer) (n : ℕ) : Type 0 where
   done : (left : Stored) → carries connection left.content (Ok tt)
-      → WritesReplayed (memory_value fresh_memory) (memory_value left) before after old new → n ≡ 0
+      → WritesReplayed starts.Open (memory_value fresh_memory) (memory_value left) before after old new → n ≡ 0
       → EndsCarrying carries connection before after old new n
   unwritten : (left : Stored) → carries connection left.content (Ok tt)
-      → WritesReplayedFront (memory_value fresh_memory) (memory_value left) before after old new → n ≡ 7
+      → WritesReplayedFront starts.Open (memory_value fresh_memory) (memory_value left) before after old new → n ≡ 7
       → EndsCarrying carries connection before after old new n
   refused : (left : Stored) (fault : F) (report : List ℕ) → carries connection left.content (Err fault)
-      → IsReplayedReport (memory_value fresh_memory) (memory_value left) before after report → new ≡ old → n ≡ 5
+      → IsReplayedReport starts.Open (memory_value fresh_memory) (memory_value left) before after report → new ≡ old → n ≡ 5
       → EndsCarrying carries connection before after old new n
   stopped : (left : Stored) (fault : ReplayFault)
-      → IsReplayFault (memory_value fresh_memory) (memory_value left) before after fault
+      → IsReplayFault starts.Open (memory_value fresh_memory) (memory_value left) before after fault
       → fault ≢ Write → new ≡ old → n ≡ status_of fault
       → EndsCarrying carries connection before after old new n
 

@@ -6,6 +6,8 @@ use Rattle.std.specs.Global.{Global}
 use Rattle.std.specs.Cmp.Lexicographic.{pointwise}
 use Rattle.kt_run.specs.declared.running.Output.{Output}
 use Rattle.kt_run.specs.declared.running.Output.TheVariants as outputs
+use Rattle.kt_core.specs.declared.start.Start.{Start}
+pub use Rattle.kt_core.specs.declared.start.Start.TheVariants.{Open, Resume}
 use Rattle.kt_command.specs.declared.command.Command.{Command}
 use Rattle.kt_command.specs.declared.command.Command.TheVariants.{Replay, Run}
 
@@ -17,16 +19,22 @@ Text = List ℕ
 abbrev pub is_word : Text → Text → Bool
 is_word text word = pointwise nat_eq text word
 
--- what is written of a run, with the flag or without it
+-- how the world of a run begins, with the flag that it is resumed or without it
+abbrev pub start_of : Bool → Start
+start_of true = Resume
+start_of false = Open
+
+-- what is written of a run, with the flag for its journal or without it
 abbrev pub output_of : Bool → Output
 output_of true = outputs.Journal
 output_of false = outputs.Report
 
--- the command that a word asks for, with the flag behind it or without
-abbrev pub command_of : Text → Bool → Option Command
-command_of word has_flag =
-    if is_word word (codes "replay") then Some Replay
-    else if is_word word (codes "run") then Some (Run (output_of has_flag))
+-- the command that a word asks for, with each of the flags behind it or without
+abbrev pub command_of : Text → (is_resumed has_journal : Bool) → Option Command
+command_of word is_resumed has_journal =
+    if is_word word (codes "replay") then Some (Replay Open)
+    else if is_word word (codes "resume") then Some (Replay Resume)
+    else if is_word word (codes "run") then Some (Run (start_of is_resumed) (output_of has_journal))
     else None
 
 -- what a program is asked to do: a command, over the store in a file or in memory; or to carry the store in a file over

@@ -8,12 +8,15 @@ use Rattle.kt_world.specs.declared.step.StepError.{StepError}
 use Rattle.kt_world.specs.declared.step.StepError.TheVariants as step
 use Rattle.kt_core.specs.declared.world.OpenError.{OpenError}
 use Rattle.kt_core.specs.declared.world.OpenError.TheVariants as opens
+use Rattle.kt_core.specs.declared.resuming.ResumeError.{ResumeError}
+use Rattle.kt_core.specs.declared.resuming.ResumeError.TheVariants as resumes
+use Rattle.kt_core.specs.declared.start.Start.{Start}
 use Rattle.kt_scene.specs.declared.fault.SceneError.{SceneError}
 use Rattle.kt_scene.specs.declared.fault.SceneError.TheVariants as scene
 use Rattle.kt_scene.specs.Outside.{Reader, Writer}
 use Rattle.kt_scene.specs.Run.{WritesReplayed, IsReplayFault, LeavesWriter}
 use Rattle.kt_scene.specs.declared.fault.ReplayFault.{ReplayFault}
-use Rattle.kt_scene.specs.declared.fault.ReplayFault.TheVariants.{Scene, Step, Open, Report, Memory, Read, Write}
+use Rattle.kt_scene.specs.declared.fault.ReplayFault.TheVariants.{Scene, Step, Open, Resume, Report, Memory, Read, Write}
 use Rattle.kt_stage.specs.declared.running.RunFault.{RunFault}
 use Rattle.kt_stage.specs.declared.running.RunFault.TheVariants as runs
 use Rattle.kt_run.specs.declared.fault.RunTextFault.{RunTextFault}
@@ -41,11 +44,17 @@ abbrev pub open_status : OpenError → ℕ
 open_status opens.OutOfMemory = 6
 open_status _ = 5
 
+-- 5 for a store that does not fit the scene or refuses a call, and 6 where memory ran out
+abbrev pub resume_status : ResumeError → ℕ
+resume_status resumes.OutOfMemory = 6
+resume_status _ = 5
+
 -- the exit status that tells of a fault; 7 is for the streams
 abbrev pub status_of : ReplayFault → ℕ
 status_of (Scene line cause) = scene_status cause
 status_of (Step at cause) = step_status cause
 status_of (Open cause) = open_status cause
+status_of (Resume cause) = resume_status cause
 status_of (Report cause) = 5
 status_of Memory = 6
 status_of Read = 7
@@ -55,6 +64,7 @@ status_of Write = 7
 -- left
 abbrev pub run_status : RunFault → ℕ
 run_status (runs.Open cause) = open_status cause
+run_status (runs.Resume cause) = resume_status cause
 run_status (runs.Step at cause) = step_status cause
 run_status (runs.Close cause) = 5
 run_status runs.Memory = 6
@@ -68,33 +78,35 @@ run_text_status (texts.Run fault) = run_status fault
 
 -- how a replay over a store ends: with 0 where what was read was replayed and its report written, and else with the
 -- status of the fault, before which nothing is written, or of the writer's a front of the report
-pub data EndsOver (was left : StoreValue) (before after : Reader) (old new : Writer) (n : ℕ) : Type 0 where
-  done : n ≡ 0 → WritesReplayed was left before after old new → EndsOver was left before after old new n
-  refused : (fault : ReplayFault) → IsReplayFault was left before after fault
-      → LeavesWriter was left before after old new fault → n ≡ status_of fault
-      → EndsOver was left before after old new n
+pub data EndsOver (start : Start) (was left : StoreValue) (before after : Reader) (old new : Writer) (n : ℕ)
+    : Type 0 where
+  done : n ≡ 0 → WritesReplayed start was left before after old new → EndsOver start was left before after old new n
+  refused : (fault : ReplayFault) → IsReplayFault start was left before after fault
+      → LeavesWriter start was left before after old new fault → n ≡ status_of fault
+      → EndsOver start was left before after old new n
 
 -- what a run leaves of the writer where it ends with this fault: where the writer failed a front of what was to be
 -- there, and else all as it was
-abbrev pub LeavesRunWriter : (was left : StoreValue) → Output → (before after : Reader) (old new : Writer)
+abbrev pub LeavesRunWriter : Start → (was left : StoreValue) → Output → (before after : Reader) (old new : Writer)
     → RunTextFault → Type 0
-LeavesRunWriter was left output before after old new (texts.Text Write) =
-    WritesRunFront was left output before after old new
-LeavesRunWriter was left output before after old new fault = new ≡ old
+LeavesRunWriter start was left output before after old new (texts.Text Write) =
+    WritesRunFront start was left output before after old new
+LeavesRunWriter start was left output before after old new fault = new ≡ old
 
 -- how a run over a store ends: with 0 where what was read was run and what was asked for written, and else with the
 -- status of the fault
-pub data EndsRun (was left : StoreValue) (output : Output) (before after : Reader) (old new : Writer) (n : ℕ)
-    : Type 0 where
-  ran : n ≡ 0 → WritesRun was left output before after old new → EndsRun was left output before after old new n
-  stopped : (fault : RunTextFault) → IsRunTextFault was left before after fault
-      → LeavesRunWriter was left output before after old new fault → n ≡ run_text_status fault
-      → EndsRun was left output before after old new n
+pub data EndsRun (start : Start) (was left : StoreValue) (output : Output) (before after : Reader) (old new : Writer)
+    (n : ℕ) : Type 0 where
+  ran : n ≡ 0 → WritesRun start was left output before after old new
+      → EndsRun start was left output before after old new n
+  stopped : (fault : RunTextFault) → IsRunTextFault start was left before after fault
+      → LeavesRunWriter start was left output before after old new fault → n ≡ run_text_status fault
+      → EndsRun start was left output before after old new n
 
 -- how a command over a store ends
 abbrev pub EndsCommand : (was left : StoreValue) → Command → (before after : Reader) (old new : Writer) → ℕ → Type 0
-EndsCommand was left Replay before after old new n = EndsOver was left before after old new n
-EndsCommand was left (Run output) before after old new n = EndsRun was left output before after old new n
+EndsCommand was left (Replay start) before after old new n = EndsOver start was left before after old new n
+EndsCommand was left (Run start output) before after old new n = EndsRun start was left output before after old new n
 
 -- how a command over this store of a kind ends, which is left like that one
 abbrev pub EndsAs : {S : Type 0} → Ghosts S → (store left : S) → Command → (before after : Reader)

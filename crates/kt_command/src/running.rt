@@ -29,13 +29,13 @@ pub fn run_over<T: Threads + Wait + Sync, R: Read, W: Write, E: Write, S: CkptSt
     ensures done_without_a_word { result.0 ≡ DONE → errors.new ≡ errors.old }
 {
     match command {
-        Command::Replay => {
-            let (answer, left) = replay_over(alloc, reader, writer, store);
+        Command::Replay(start) => {
+            let (answer, left) = replay_over(alloc, start, reader, writer, store);
             (end_replay(answer, errors), left)
         }
-        Command::Run(output) => {
+        Command::Run(start, output) => {
             let (answer, left) = run_text_over(
-                threads, alloc, reader, writer, store, output, &OpenGate,
+                threads, alloc, start, reader, writer, store, output, &OpenGate,
             );
             (end_run(answer, errors), left)
         }

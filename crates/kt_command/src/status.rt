@@ -1,10 +1,10 @@
 //! How a command ends: the line that tells of a fault, and the exit status.
 ghost use Rattle.std.specs.Prelude.{◌≡◌, IsOk};
 ghost use Rattle.kt_command.specs.Answers.{answer_status, run_answer_status};
-ghost use Rattle.kt_command.specs.Status.{open_status, run_text_status, status_of, step_status};
+ghost use Rattle.kt_command.specs.Status.{open_status, resume_status, run_text_status, status_of, step_status};
 
 use kt_run::RunTextFault;
-use kt_scene::{OpenError, ReplayFault, SceneError, StepError};
+use kt_scene::{OpenError, ReplayFault, ResumeError, SceneError, StepError};
 use kt_stage::RunFault;
 use std::io::Write;
 
@@ -16,7 +16,7 @@ pub const COMMAND_LINE: u8 = 2;
 pub const SCENARIO: u8 = 3;
 /// A step is not enabled.
 pub const STEP: u8 = 4;
-/// The store was not opened, is not fresh or refused a call; or a run ended whose seats do not fit its journal, or
+/// The store was not opened, is not fresh, does not fit the scene or refused a call; or a run ended whose seats do not fit its journal, or
 /// where a node has a step left.
 pub const STORE: u8 = 5;
 /// Memory was refused, or a thread could not be started.
@@ -65,6 +65,7 @@ fn run_status_of(fault: RunTextFault) -> u8
         RunTextFault::Text(fault) => status_of(fault),
         RunTextFault::Run(fault) => match fault {
             RunFault::Open(cause) => open_status(cause),
+            RunFault::Resume(cause) => resume_status(cause),
             RunFault::Step { at: _, cause } => step_status(cause),
             RunFault::Close(_) | RunFault::Unfinished { node: _ } => STORE,
             RunFault::Memory => MEMORY,
@@ -94,6 +95,16 @@ fn open_status(cause: OpenError) -> u8
     }
 }
 
+/// The status that tells of a world that was not resumed.
+fn resume_status(cause: ResumeError) -> u8
+    ensures { result ≡ resume_status cause }
+{
+    match cause {
+        ResumeError::OutOfMemory => MEMORY,
+        ResumeError::Unfit { node: _ } | ResumeError::Store(_) => STORE,
+    }
+}
+
 /// The status that tells of a fault.
 fn status_of(fault: ReplayFault) -> u8
     ensures { result ≡ status_of fault }
@@ -105,6 +116,7 @@ fn status_of(fault: ReplayFault) -> u8
         },
         ReplayFault::Step { at: _, cause } => step_status(cause),
         ReplayFault::Open(cause) => open_status(cause),
+        ReplayFault::Resume(cause) => resume_status(cause),
         ReplayFault::Memory => MEMORY,
         ReplayFault::Report(_) => STORE,
         ReplayFault::Read | ReplayFault::Write => STREAM,

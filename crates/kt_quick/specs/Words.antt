@@ -4,20 +4,24 @@ use Rattle.kt_scene.specs.Outside.{Reader, Writer}
 use Rattle.kt_run.specs.declared.running.Output.TheVariants as outputs
 use Rattle.kt_command.specs.declared.command.Command.{Command}
 use Rattle.kt_command.specs.declared.command.Command.TheVariants.{Run}
-use Rattle.kt_command.specs.Command.{Text, command_of, is_word}
+use Rattle.kt_command.specs.Command.{Open, Text, command_of, is_word}
 use Rattle.kt_command.specs.Status.{EndsInMemory}
 
 -- the command that two words name
 abbrev pub command_of_two : Text → Text → Option Command
 command_of_two name flag =
     if is_word name (codes "run")
-    then if is_word flag (codes "--journal") then Some (Run outputs.Journal) else None
+    then if is_word flag (codes "--journal") then Some (Run Open outputs.Journal) else None
     else None
+
+-- the command that one word names: those that go on from a file are none
+abbrev pub command_of_one : Text → Option Command
+command_of_one name = if is_word name (codes "resume") then None else command_of name false false
 
 -- the command that the words name: `replay`, `run`, or `run --journal`
 abbrev pub command_asked : List Text → Option Command
 command_asked [] = None
-command_asked (name ∷ []) = command_of name false
+command_asked (name ∷ []) = command_of_one name
 command_asked (name ∷ flag ∷ []) = command_of_two name flag
 command_asked (name ∷ flag ∷ more ∷ words) = None
 

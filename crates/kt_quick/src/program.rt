@@ -6,7 +6,7 @@ ghost use Rattle.kt_quick.specs.Words.{IsQuickStatus, command_asked};
 
 use kt_command::{COMMAND_LINE, Command, DONE, MEMORY, run_in_memory, texts_of, words_behind};
 use kt_run::Output;
-use kt_scene::{Sink, Source};
+use kt_scene::{Sink, Source, Start};
 use std::alloc::{AllocError, Global};
 use std::env::Args;
 use std::io;
@@ -81,9 +81,10 @@ fn command_asked(words: &[&str]) -> Option<Command>
     ensures { result ≡ command_asked (texts words.now) }
 {
     match words {
-        [name] => Command::of_name(name, false),
+        // Nothing can be gone on from in memory.
+        [name] if *name != "resume" => Command::of_name(name, false, false),
         [name, flag] if *name == "run" && *flag == "--journal" => {
-            Some(Command::Run(Output::Journal))
+            Some(Command::Run(Start::Open, Output::Journal))
         }
         _ => None,
     }

@@ -11,7 +11,7 @@ use std::fmt::{Display, Formatter};
 pub enum RunTextFault {
     /// Reading, the scenario or writing, as of a replay: `Scene`, `Report`, `Memory`, `Read` or `Write`.
     Text(ReplayFault),
-    /// The run itself: a world that was not opened, a refused step, or an end that was none.
+    /// The run itself: a world that was not opened or resumed, a refused step, or an end that was none.
     Run(RunFault),
 }
 
@@ -54,6 +54,10 @@ fn tell_run<W: fmt::Write>(f: &mut Formatter<W>, fault: RunFault) -> fmt::Result
     match fault {
         RunFault::Open(cause) => {
             let fault = ReplayFault::Open(cause);
+            write!(f, "{fault}")
+        }
+        RunFault::Resume(cause) => {
+            let fault = ReplayFault::Resume(cause);
             write!(f, "{fault}")
         }
         RunFault::Step { at, cause } => {

@@ -7,11 +7,10 @@ ghost use Rattle.kt_core.specs.Store.{AreLater, IsLeftSome, store_value};
 ghost use Rattle.kt_scene.specs.Stream.{IsReportFault, UnlessWrite};
 ghost use Rattle.kt_run.specs.Run.{IsRun, IsRunFault, IsRunOf, IsRunTextFault, IsTextFault, UnlessFront, Writes};
 ghost use Rattle.kt_run.specs.Run.{WritesFront, WritesRun, WritesRunFront};
-ghost use Rattle.kt_store.specs.Content.{is_fresh};
 
 use crate::fault::RunTextFault;
 use kt_scene::{
-    ReplayFault, Scenario, Sink, Source, WorkKind, read_scene, read_text, write_journal,
+    ReplayFault, Scenario, Sink, Source, Start, WorkKind, read_scene, read_text, write_journal,
     write_report,
 };
 use kt_stage::{Gate, Journal, run_threads_over};
@@ -52,25 +51,29 @@ where
     S: CkptStore + Send + Drop,
     G: Gate + Sync,
     ensures written { OnOk result (IsLeftSome (store_value S.CkptStore) (λ left.
-        WritesRun (store_value S.CkptStore store) left output reader.old reader.new writer.old writer.new)) }
+        WritesRun Start.Open (store_value S.CkptStore store) left output
+        reader.old reader.new writer.old writer.new)) }
     ensures front { result ≡ Err (RunTextFault.Text text_faults.Write)
         → IsLeftSome (store_value S.CkptStore) (λ left.
-        WritesRunFront (store_value S.CkptStore store) left output reader.old reader.new writer.old writer.new) }
+        WritesRunFront Start.Open (store_value S.CkptStore store) left output
+        reader.old reader.new writer.old writer.new) }
     ensures fault { IfErr result (λ fault. IsLeftSome (store_value S.CkptStore) (λ left.
-        IsRunTextFault (store_value S.CkptStore store) left reader.old reader.new fault)) }
+        IsRunTextFault Start.Open (store_value S.CkptStore store) left reader.old reader.new fault)) }
     // Before any fault but the writer's the writer is not called.
     ensures nothing { IfErr result (λ fault. UnlessFront fault (writer.new ≡ writer.old)) }
 {
-    let (answer, left) = run_text_over(rt, alloc, reader, writer, store, output, gate);
+    let (answer, left) = run_text_over(rt, alloc, Start::Open, reader, writer, store, output, gate);
     drop(left);
     answer
 }
 
-/// As `run_text`, and gives the store back. `run_text` drops it, so its clauses can name no store that a caller sees;
-/// these speak of the one that is given back (docs/DECISIONS.md#the-report).
+/// As `run_text`, over a world that begins so: opened, or resumed. It gives the store back. `run_text` drops it, so its
+/// clauses can name no store that a caller sees; these speak of the one that is given back
+/// (docs/DECISIONS.md#the-report).
 pub fn run_text_over<T, R, W, S, G>(
     rt: &T,
     alloc: Global,
+    start: Start,
     reader: &mut Source<R>,
     writer: &mut Sink<W>,
     store: S,
@@ -83,17 +86,18 @@ where
     W: Write,
     S: CkptStore + Send + Drop,
     G: Gate + Sync,
-    ensures written { OnOk result.0 (WritesRun (store_value S.CkptStore store) (store_value S.CkptStore result.1)
+    ensures written { OnOk result.0 (WritesRun start (store_value S.CkptStore store) (store_value S.CkptStore result.1)
         output reader.old reader.new writer.old writer.new) }
     ensures front { result.0 ≡ Err (RunTextFault.Text text_faults.Write)
-        → WritesRunFront (store_value S.CkptStore store) (store_value S.CkptStore result.1)
+        → WritesRunFront start (store_value S.CkptStore store) (store_value S.CkptStore result.1)
         output reader.old reader.new writer.old writer.new }
     ensures fault { IfErr result.0
-        (IsRunTextFault (store_value S.CkptStore store) (store_value S.CkptStore result.1) reader.old reader.new) }
+        (IsRunTextFault start (store_value S.CkptStore store) (store_value S.CkptStore result.1)
+        reader.old reader.new) }
     // Before any fault but the writer's the writer is not called.
     ensures nothing { IfErr result.0 (λ fault. UnlessFront fault (writer.new ≡ writer.old)) }
 {
-    match run_read(rt, alloc, reader, store, gate) {
+    match run_read(rt, alloc, start, reader, store, gate) {
         Ok(journal) => {
             let (answer, left) = write_run(alloc, journal, writer, output);
             match answer {
@@ -109,6 +113,7 @@ where
 fn run_read<T, R, S, G>(
     rt: &T,
     alloc: Global,
+    start: Start,
     reader: &mut Source<R>,
     store: S,
     gate: &G,
@@ -118,14 +123,14 @@ where
     R: Read,
     S: CkptStore + Send + Drop,
     G: Gate + Sync,
-    ensures run { IfOk result (λ j. IsRun reader.old reader.new j.world.is_honest (is_fresh (S.content store)) j.steps
+    ensures run { IfOk result (λ j. IsRun start reader.old reader.new j.world.is_honest (S.content store) j.steps
         j.world.state) }
     ensures later { IfOk result (λ j. AreLater (S.counts store) j.world.counts) }
     ensures fault { IfErr result (λ e.
-        IsRunFault (store_value S.CkptStore store) (store_value S.CkptStore e.1) reader.old reader.new e.0) }
+        IsRunFault start (store_value S.CkptStore store) (store_value S.CkptStore e.1) reader.old reader.new e.0) }
 {
     match read_text(alloc, reader) {
-        Ok(text) => run_told(rt, alloc, &text, store, gate),
+        Ok(text) => run_told(rt, alloc, start, &text, store, gate),
         Err(fault) => Err((RunTextFault::Text(fault), store)),
     }
 }
@@ -134,6 +139,7 @@ where
 fn run_told<T, S, G>(
     rt: &T,
     alloc: Global,
+    start: Start,
     text: &[u8],
     store: S,
     gate: &G,
@@ -142,11 +148,11 @@ where
     T: Threads + Wait + Sync,
     S: CkptStore + Send + Drop,
     G: Gate + Sync,
-    ensures run { IfOk result (λ j. IsRunOf text.now j.world.is_honest (is_fresh (S.content store)) j.steps
+    ensures run { IfOk result (λ j. IsRunOf start text.now j.world.is_honest (S.content store) j.steps
         j.world.state) }
     ensures later { IfOk result (λ j. AreLater (S.counts store) j.world.counts) }
     ensures fault { IfErr result (λ e.
-        IsTextFault (store_value S.CkptStore store) (store_value S.CkptStore e.1) text.now e.0) }
+        IsTextFault start (store_value S.CkptStore store) (store_value S.CkptStore e.1) text.now e.0) }
 {
     let Scenario { scene, work } = match read_scene(alloc, text, WorkKind::Faults) {
         Ok(scenario) => scenario,
@@ -154,7 +160,7 @@ where
     };
     // The work is of the kind that was asked for.
     let faults = work.into_faults().unwrap();
-    match run_threads_over(rt, alloc, scene, faults, store, gate) {
+    match run_threads_over(rt, alloc, start, scene, faults, store, gate) {
         Ok(journal) => Ok(journal),
         Err((fault, left)) => Err((RunTextFault::from(fault), left.into_store())),
     }

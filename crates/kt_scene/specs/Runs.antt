@@ -3,6 +3,9 @@ use Rattle.std.specs.Prelude.{◌≡◌, ℕ, ◌+◌, true, List, [], ◌∷◌
 use Rattle.kt_world.specs.declared.step.Step.{Step}
 use Rattle.kt_world.specs.declared.step.StepError.{StepError}
 use Rattle.kt_store.specs.Content.{Content}
+use Rattle.kt_world.specs.Cast.{Cast}
+use Rattle.kt_core.specs.Starting.{Begins}
+use Rattle.kt_core.specs.declared.start.Start.{Start}
 use Rattle.kt_world.specs.State.{State}
 use Rattle.kt_world.specs.Judge.{planned}
 use Rattle.kt_world.specs.Effect.{step_result}
@@ -12,6 +15,12 @@ use Rattle.kt_core.specs.Stepping.{IsCalledFor, IsCause, Refuses}
 abbrev pub RunsTo : State → List Step → State → Type 0
 RunsTo old [] new = new ≡ old
 RunsTo old (step ∷ later) new = (between : State) × (step_result old step ≡ Ok between) × RunsTo between later new
+
+-- these steps lead to the state from the first one of the scene's world, which began so over a store with this content
+pub record BeginsAndRunsTo (start : Start) (c : Content) (cast : Cast) (steps : List Step) (s : State) : Type 0 where
+  pub first : State
+  pub begins : Begins start c cast first
+  pub runs : RunsTo first steps s
 
 -- the step with this number, counted from 1, is the first that is refused, for this cause. An honest store refuses for
 -- no damage, for being full only where it has no number left, and holds what it held before that step.

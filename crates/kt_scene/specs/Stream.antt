@@ -43,6 +43,7 @@ IsReadFault before after (faults.Scene line cause) =
     (line ≡ 1) × (cause ≡ Limit) × IsTooLong before.bytes × (after.outcome ≡ outcomes.Open)
 IsReadFault before after (faults.Step at cause) = ⊥
 IsReadFault before after (faults.Open cause) = ⊥
+IsReadFault before after (faults.Resume cause) = ⊥
 IsReadFault before after (faults.Report cause) = ⊥
 IsReadFault before after faults.Memory = after.outcome ≡ outcomes.Open
 IsReadFault before after faults.Read = after.outcome ≡ outcomes.Failed
@@ -53,6 +54,7 @@ abbrev pub UnlessWrite : ReplayFault → Type 0 → Type 0
 UnlessWrite (faults.Scene line cause) P = P
 UnlessWrite (faults.Step at cause) P = P
 UnlessWrite (faults.Open cause) P = P
+UnlessWrite (faults.Resume cause) P = P
 UnlessWrite (faults.Report cause) P = P
 UnlessWrite faults.Memory P = P
 UnlessWrite faults.Read P = P
@@ -69,6 +71,7 @@ abbrev pub IsReportFault : (before now : Counts) → Bool → ReplayFault → Ty
 IsReportFault before now is_honest (faults.Scene line cause) = ⊥
 IsReportFault before now is_honest (faults.Step at cause) = ⊥
 IsReportFault before now is_honest (faults.Open cause) = ⊥
+IsReportFault before now is_honest (faults.Resume cause) = ⊥
 IsReportFault before now is_honest (faults.Report cause) = IsReportRefused before now is_honest cause
 IsReportFault before now is_honest faults.Memory = now ≡ before
 IsReportFault before now is_honest faults.Read = ⊥

@@ -6,3 +6,4 @@ pub mod Texts
 pub mod Making
 pub mod Starts
 pub mod Room
+pub mod Unbegun

@@ -2,7 +2,7 @@
 
 ghost use Rattle.std.specs.Prelude.{◌≡◌};
 
-use kt_core::{OpenError, StepError};
+use kt_core::{OpenError, ResumeError, StartError, StepError};
 use kt_store::StoreError;
 use std::error::Error;
 use std::fmt;
@@ -91,6 +91,8 @@ pub enum ReplayFault {
     Step { at: usize, cause: StepError },
     /// The world could not be opened.
     Open(OpenError),
+    /// The world could not be resumed.
+    Resume(ResumeError),
     /// The store refused what the report tells of it.
     Report(StoreError),
     /// Memory ran out for the text or for the report.
@@ -101,8 +103,22 @@ pub enum ReplayFault {
     Write,
 }
 
-/// The line that tells of the fault, as `line 4: 3 Tuple`, `step 9: 4 NoSuchMatch`, `store: NotFresh`, `memory`, `read`
-/// or `write`. It is written by hand, since its form goes by the cause; it is tested and not proved
+impl From<StartError> for ReplayFault {
+    ghost use Rattle.std.specs.Prelude.{◌≡◌};
+    ghost use Rattle.kt_scene.specs.inner.Unbegun.{fault_of};
+
+    ghost from_gives = { λ cause fault. fault ≡ fault_of cause };
+
+    fn from(cause: StartError) -> ReplayFault {
+        match cause {
+            StartError::Open(cause) => ReplayFault::Open(cause),
+            StartError::Resume(cause) => ReplayFault::Resume(cause),
+        }
+    }
+}
+
+/// The line that tells of the fault, as `line 4: 3 Tuple`, `step 9: 4 NoSuchMatch`, `store: NotFresh`, `store: Unfit`,
+/// `memory`, `read` or `write`. It is written by hand, since its form goes by the cause; it is tested and not proved
 /// (docs/DECISIONS.md#the-program).
 impl Display for ReplayFault {
     fn fmt<W: fmt::Write>(&self, f: &mut Formatter<W>) -> fmt::Result {
@@ -113,12 +129,15 @@ impl Display for ReplayFault {
             }
             ReplayFault::Memory
             | ReplayFault::Open(OpenError::OutOfMemory)
+            | ReplayFault::Resume(ResumeError::OutOfMemory)
             | ReplayFault::Step {
                 at: _,
                 cause: StepError::OutOfMemory,
             } => write!(f, "memory"),
             ReplayFault::Open(OpenError::NotFresh) => write!(f, "store: NotFresh"),
+            ReplayFault::Resume(ResumeError::Unfit { .. }) => write!(f, "store: Unfit"),
             ReplayFault::Open(OpenError::Store(cause))
+            | ReplayFault::Resume(ResumeError::Store(cause))
             | ReplayFault::Report(cause)
             | ReplayFault::Step {
                 at: _,

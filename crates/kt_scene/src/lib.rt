@@ -2,7 +2,8 @@
 //! report.
 //!
 //! - Contract: the bytes that go out are the report of the run of the scenario that the bytes that came in spell
-//!   (`replay_over`, clause `written`), while the store that is given back is honest.
+//!   (`replay_over`, clause `written`), while the store that is given back is honest. The world is opened, or goes on
+//!   from what the store holds.
 //! - Stands on: kt_tuple, kt_script, kt_space, kt_history, kt_store, kt_world, kt_core; of the kit: memchr, thiserror
 //! - Used by: kt_run, kt_command, linda_kt, kt_quick, kt_memory_tests
 //! - Begin in: `replaying.rt`, the whole way from bytes to bytes, then `draft.rt` for reading and `report.rt` for
@@ -28,7 +29,7 @@ mod writing;
 
 pub use fault::{ReplayFault, SceneError, SceneFault};
 pub use journal::write_journal;
-pub use kt_core::{OpenError, StepError};
+pub use kt_core::{OpenError, ResumeError, Start, StepError};
 pub use laws::{
     a_state_has_one_report, what_a_journal_tells_is_read, what_has_a_fault_is_refused,
     what_is_of_the_other_kind_is_refused, what_is_read_is_spelled_so,
@@ -36,7 +37,7 @@ pub use laws::{
     what_was_read_is_written,
 };
 pub use reading::{MAX_TEXT, read_scene};
-pub use replaying::{replay, replay_over, replay_world, report_over};
+pub use replaying::{replay, replay_over, replay_world, report_over, resume_replay};
 pub use report::write_report;
 pub use scenario::{Scenario, Work, WorkKind};
 pub use sink::Sink;

@@ -1,10 +1,8 @@
 //! From the bytes of a scenario to the bytes of its report.
 
-ghost use Rattle.std.specs.Prelude.{◌≡◌, ◌≢◌, true, Err, IfOk, IfErr, IsTrue, OnOk};
-ghost use Rattle.kt_store.specs.Content.{is_fresh};
-ghost use Rattle.kt_world.specs.Reached.{opening};
+ghost use Rattle.std.specs.Prelude.{◌≡◌, ◌≢◌, Err, IfOk, IfErr, IsTrue, OnOk};
 ghost use Rattle.kt_scene.specs.Work.{steps_of};
-ghost use Rattle.kt_scene.specs.Runs.{RunsTo};
+ghost use Rattle.kt_scene.specs.Runs.{BeginsAndRunsTo, RunsTo};
 ghost use Rattle.kt_scene.specs.Run.{play_in, LeadsTo, IsTextFault, IsReplayed, IsReplayedReport, IsWorldFault};
 ghost use Rattle.kt_scene.specs.inner.Making.{IsStepFault, IsRunFault};
 ghost use Rattle.kt_scene.specs.Run.{WritesReplayed, WritesReplayedFront, IsReplayFault};
@@ -18,7 +16,7 @@ use crate::scenario::{Scenario, WorkKind};
 use crate::sink::Sink;
 use crate::source::Source;
 use crate::stream::read_text;
-use kt_core::{Scene, Step, World};
+use kt_core::{Scene, Start, Step, World};
 use kt_store::CkptStore;
 use std::alloc::Global;
 use std::io::{Read, Write};
@@ -35,41 +33,68 @@ pub fn replay<R: Read, W: Write, S: CkptStore + Drop>(
     store: S,
 ) -> Result<(), ReplayFault>
     ensures written { OnOk result (IsLeftSome (store_value S.CkptStore) (λ left.
-        WritesReplayed (store_value S.CkptStore store) left
+        WritesReplayed Start.Open (store_value S.CkptStore store) left
         reader.old reader.new writer.old writer.new)) }
     ensures front { result ≡ Err ReplayFault.Write
         → IsLeftSome (store_value S.CkptStore) (λ left.
-        WritesReplayedFront (store_value S.CkptStore store) left
+        WritesReplayedFront Start.Open (store_value S.CkptStore store) left
         reader.old reader.new writer.old writer.new) }
     ensures fault { IfErr result (λ fault. IsLeftSome (store_value S.CkptStore) (λ left.
-        IsReplayFault (store_value S.CkptStore store) left reader.old reader.new fault)) }
+        IsReplayFault Start.Open (store_value S.CkptStore store) left reader.old reader.new fault)) }
     // Before any fault but the writer's the writer is not called.
     ensures nothing { IfErr result (λ fault. UnlessWrite fault (writer.new ≡ writer.old)) }
 {
-    let (answer, left) = replay_over(alloc, reader, writer, store);
+    let (answer, left) = replay_over(alloc, Start::Open, reader, writer, store);
     drop(left);
     answer
 }
 
-/// As `replay`, and gives the store back. `replay` drops it, so its clauses can name no store that a caller sees; these
-/// speak of the one that is given back (docs/DECISIONS.md#the-report).
-pub fn replay_over<R: Read, W: Write, S: CkptStore + Drop>(
+/// As `replay`, over a world that is resumed: it goes on from what the store holds. What is said of the store is said
+/// as there.
+pub fn resume_replay<R: Read, W: Write, S: CkptStore + Drop>(
     alloc: Global,
     reader: &mut Source<R>,
     writer: &mut Sink<W>,
     store: S,
+) -> Result<(), ReplayFault>
+    ensures written { OnOk result (IsLeftSome (store_value S.CkptStore) (λ left.
+        WritesReplayed Start.Resume (store_value S.CkptStore store) left
+        reader.old reader.new writer.old writer.new)) }
+    ensures front { result ≡ Err ReplayFault.Write
+        → IsLeftSome (store_value S.CkptStore) (λ left.
+        WritesReplayedFront Start.Resume (store_value S.CkptStore store) left
+        reader.old reader.new writer.old writer.new) }
+    ensures fault { IfErr result (λ fault. IsLeftSome (store_value S.CkptStore) (λ left.
+        IsReplayFault Start.Resume (store_value S.CkptStore store) left reader.old reader.new fault)) }
+    // Before any fault but the writer's the writer is not called.
+    ensures nothing { IfErr result (λ fault. UnlessWrite fault (writer.new ≡ writer.old)) }
+{
+    let (answer, left) = replay_over(alloc, Start::Resume, reader, writer, store);
+    drop(left);
+    answer
+}
+
+/// As `replay` or `resume_replay`, by how the world begins, and gives the store back. Those two drop it, so their
+/// clauses can name no store that a caller sees; these speak of the one that is given back
+/// (docs/DECISIONS.md#the-report).
+pub fn replay_over<R: Read, W: Write, S: CkptStore + Drop>(
+    alloc: Global,
+    start: Start,
+    reader: &mut Source<R>,
+    writer: &mut Sink<W>,
+    store: S,
 ) -> (Result<(), ReplayFault>, S)
-    ensures written { OnOk result.0 (WritesReplayed (store_value S.CkptStore store)
+    ensures written { OnOk result.0 (WritesReplayed start (store_value S.CkptStore store)
         (store_value S.CkptStore result.1) reader.old reader.new writer.old writer.new) }
     ensures front { result.0 ≡ Err ReplayFault.Write
-        → WritesReplayedFront (store_value S.CkptStore store)
+        → WritesReplayedFront start (store_value S.CkptStore store)
         (store_value S.CkptStore result.1) reader.old reader.new writer.old writer.new }
-    ensures fault { IfErr result.0 (IsReplayFault (store_value S.CkptStore store)
+    ensures fault { IfErr result.0 (IsReplayFault start (store_value S.CkptStore store)
         (store_value S.CkptStore result.1) reader.old reader.new) }
     // Before any fault but the writer's the writer is not called.
     ensures nothing { IfErr result.0 (λ fault. UnlessWrite fault (writer.new ≡ writer.old)) }
 {
-    match world_over(alloc, reader, store) {
+    match world_over(alloc, start, reader, store) {
         Ok(mut world) => {
             let answer = write_report(alloc, &mut world, writer);
             (answer, world.into_store())
@@ -78,20 +103,20 @@ pub fn replay_over<R: Read, W: Write, S: CkptStore + Drop>(
     }
 }
 
-/// As `replay_over` up to the writing: it gives the report and the store. A command that has to do something between
-/// the two then writes the report by `write_text`.
+/// As `replay_over` of a world that is opened, up to the writing: it gives the report and the store. A command that has
+/// to do something between the two then writes the report by `write_text`.
 pub fn report_over<R: Read, S: CkptStore + Drop>(
     alloc: Global,
     reader: &mut Source<R>,
     store: S,
 ) -> Result<(Vec<u8>, S), (ReplayFault, S)>
-    ensures told { IfOk result (λ r. IsReplayedReport (store_value S.CkptStore store)
+    ensures told { IfOk result (λ r. IsReplayedReport Start.Open (store_value S.CkptStore store)
         (store_value S.CkptStore r.1) reader.old reader.new r.0.items) }
-    ensures fault { IfErr result (λ e. IsReplayFault (store_value S.CkptStore store)
+    ensures fault { IfErr result (λ e. IsReplayFault Start.Open (store_value S.CkptStore store)
         (store_value S.CkptStore e.1) reader.old reader.new e.0) }
     ensures unwritten { IfErr result (λ e. e.0 ≢ ReplayFault.Write) }
 {
-    match world_over(alloc, reader, store) {
+    match world_over(alloc, Start::Open, reader, store) {
         Ok(mut world) => match report_text(alloc, &mut world) {
             Ok(report) => Ok((report, world.into_store())),
             Err(refused) => Err((refused, world.into_store())),
@@ -108,12 +133,12 @@ pub fn replay_world<R: Read, S: CkptStore + Drop>(
     store: S,
 ) -> Result<World<S>, ReplayFault>
     ensures replayed { IfOk result (λ world.
-        IsReplayed reader.old reader.new world.is_honest (is_fresh (S.content store)) world.state) }
+        IsReplayed Start.Open reader.old reader.new world.is_honest (S.content store) world.state) }
     ensures counts { IfOk result (λ world. world.counts ≡ S.counts store) }
     ensures fault { IfErr result (λ fault. IsLeftSome (store_value S.CkptStore) (λ left.
-        IsWorldFault (store_value S.CkptStore store) left reader.old reader.new fault)) }
+        IsWorldFault Start.Open (store_value S.CkptStore store) left reader.old reader.new fault)) }
 {
-    match world_over(alloc, reader, store) {
+    match world_over(alloc, Start::Open, reader, store) {
         Ok(world) => Ok(world),
         Err((fault, left)) => {
             drop(left);
@@ -122,20 +147,22 @@ pub fn replay_world<R: Read, S: CkptStore + Drop>(
     }
 }
 
-/// As `replay_world`, and gives the store back where it is refused, so that the clause can speak of that store.
+/// The world that begins so, after the steps of the scenario that is read. It gives the store back where it is refused,
+/// so that the clause can speak of that store.
 fn world_over<R: Read, S: CkptStore + Drop>(
     alloc: Global,
+    start: Start,
     reader: &mut Source<R>,
     store: S,
 ) -> Result<World<S>, (ReplayFault, S)>
     ensures replayed { IfOk result (λ world.
-        IsReplayed reader.old reader.new world.is_honest (is_fresh (S.content store)) world.state) }
+        IsReplayed start reader.old reader.new world.is_honest (S.content store) world.state) }
     ensures counts { IfOk result (λ world. world.counts ≡ S.counts store) }
-    ensures fault { IfErr result (λ e. IsWorldFault (store_value S.CkptStore store)
+    ensures fault { IfErr result (λ e. IsWorldFault start (store_value S.CkptStore store)
         (store_value S.CkptStore e.1) reader.old reader.new e.0) }
 {
     match read_text(alloc, reader) {
-        Ok(text) => world_told(alloc, &text, store),
+        Ok(text) => world_told(alloc, start, &text, store),
         Err(fault) => Err((fault, store)),
     }
 }
@@ -143,56 +170,59 @@ fn world_over<R: Read, S: CkptStore + Drop>(
 /// The world after the steps of the scenario that the text spells.
 fn world_told<S: CkptStore + Drop>(
     alloc: Global,
+    start: Start,
     text: &[u8],
     store: S,
 ) -> Result<World<S>, (ReplayFault, S)>
-    ensures leads { IfOk result (λ world. LeadsTo text.now world.is_honest (is_fresh (S.content store)) world.state) }
+    ensures leads { IfOk result (λ world. LeadsTo start text.now world.is_honest (S.content store) world.state) }
     ensures counts { IfOk result (λ world. world.counts ≡ S.counts store) }
-    ensures fault { IfErr result (λ e. IsTextFault (store_value S.CkptStore store)
+    ensures fault { IfErr result (λ e. IsTextFault start (store_value S.CkptStore store)
         (store_value S.CkptStore e.1) text.now e.0) }
 {
     match read_scene(alloc, text, WorkKind::Steps) {
-        Ok(scenario) => run_scenario(alloc, scenario, store),
+        Ok(scenario) => run_scenario(alloc, start, scenario, store),
         Err(SceneFault { line, cause }) => Err((ReplayFault::Scene { line, cause }, store)),
     }
 }
 
 fn run_scenario<S: CkptStore + Drop>(
     alloc: Global,
+    start: Start,
     scenario: Scenario,
     store: S,
 ) -> Result<World<S>, (ReplayFault, S)>
     ensures replayed { IfOk result (λ world. IsTrue world.is_honest
-        → RunsTo (opening (play_in scenario).cast) (steps_of (play_in scenario).work) world.state) }
-    ensures fresh { IfOk result (λ world. IsTrue world.is_honest → is_fresh (S.content store) ≡ true) }
+        → BeginsAndRunsTo start (S.content store) (play_in scenario).cast (steps_of (play_in scenario).work)
+        world.state) }
     ensures counts { IfOk result (λ world. world.counts ≡ S.counts store) }
-    ensures fault { IfErr result (λ e. IsRunFault (store_value S.CkptStore store)
+    ensures fault { IfErr result (λ e. IsRunFault start (store_value S.CkptStore store)
         (store_value S.CkptStore e.1)
         (play_in scenario).cast (steps_of (play_in scenario).work) e.0) }
 {
     let Scenario { scene, work } = scenario;
-    run(alloc, scene, work.steps(), store)
+    run(alloc, start, scene, work.steps(), store)
 }
 
 /// The world of the scene after these steps.
 fn run<S: CkptStore + Drop>(
     alloc: Global,
+    start: Start,
     scene: Scene,
     steps: &[Step],
     store: S,
 ) -> Result<World<S>, (ReplayFault, S)>
-    ensures replayed { IfOk result (λ world. IsTrue world.is_honest → RunsTo (opening scene) steps.now world.state) }
-    ensures fresh { IfOk result (λ world. IsTrue world.is_honest → is_fresh (S.content store) ≡ true) }
+    ensures replayed { IfOk result (λ world. IsTrue world.is_honest
+        → BeginsAndRunsTo start (S.content store) scene steps.now world.state) }
     ensures counts { IfOk result (λ world. world.counts ≡ S.counts store) }
-    ensures fault { IfErr result (λ e. IsRunFault (store_value S.CkptStore store)
+    ensures fault { IfErr result (λ e. IsRunFault start (store_value S.CkptStore store)
         (store_value S.CkptStore e.1) scene steps.now e.0) }
 {
-    match World::open(alloc, scene, store) {
+    match start.begin(alloc, scene, store) {
         Ok(mut world) => match make_steps(alloc, &mut world, steps) {
             Ok(()) => Ok(world),
             Err(fault) => Err((fault, world.into_store())),
         },
-        Err(refused) => Err((ReplayFault::Open(refused.cause), refused.store)),
+        Err(refused) => Err((ReplayFault::from(refused.cause), refused.store)),
     }
 }
 

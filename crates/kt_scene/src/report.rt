@@ -87,7 +87,7 @@ fn report_of<S: CkptStore>(
 }
 
 /// The word, a number and the end of the line.
-fn push_count(out: &mut Vec<u8>, word: &[u8], count: u64) -> Result<(), AllocError>
+pub(crate) fn push_count(out: &mut Vec<u8>, word: &[u8], count: u64) -> Result<(), AllocError>
     ensures { OnOk result (out.new.items ≡ out.old.items ++ count_line word.now count) }
 {
     out.extend_from_slice(word)?;

@@ -13,11 +13,14 @@ use Rattle.kt_store.specs.declared.error.StoreError.{StoreError}
 use Rattle.kt_store.specs.declared.error.StoreError.TheVariants as stores
 use Rattle.kt_store.specs.Calls.{Counts, most}
 use Rattle.kt_world.specs.Cast.{Cast}
-use Rattle.kt_world.specs.Reached.{opening}
 use Rattle.kt_world.specs.State.{State}
 use Rattle.kt_core.specs.declared.faults.FaultLine.{FaultLine}
 use Rattle.kt_core.specs.Store.{StoreValue}
-use Rattle.kt_core.specs.World.{IsOpenRefused, Standing, store_of}
+use Rattle.kt_core.specs.Starting.{Begins, IsErrorOf, IsUnbegun}
+use Rattle.kt_core.specs.World.{Standing, store_of}
+use Rattle.kt_core.specs.declared.start.Start.{Start}
+use Rattle.kt_core.specs.declared.start.StartError.{StartError}
+use Rattle.kt_core.specs.declared.start.StartError.TheVariants as unbegun
 use Rattle.kt_stage.specs.declared.running.RunFault.{RunFault}
 use Rattle.kt_stage.specs.declared.running.RunFault.TheVariants as runs
 use Rattle.kt_stage.specs.declared.running.Left.{Left}
@@ -25,14 +28,22 @@ use Rattle.kt_stage.specs.declared.running.Left.TheVariants as lefts
 use Rattle.kt_stage.specs.Journal.{Journal, all_made}
 use Rattle.kt_stage.specs.Policy.{first_unfinished, spent_by}
 
+-- the steps, each of them made, lead to this state from the first one of the scene's world, which began so over a store
+-- with this content
+pub record Leads (start : Start) (c : Content) (cast : Cast) (steps : List Step) (s : State) : Type 0 where
+  pub first : State
+  pub begins : Begins start c cast first
+  pub made : all_made first steps ≡ Ok s
+
 -- A store was given, which was like this, and is left as it is then.
 
--- some steps led from the opening of the scene to a state in which this node is the first that has a next step, the
--- fault lines being spent by these steps, and the store holds what it holds in that state
-pub record IsLeftOver (left : StoreValue) (cast : Cast) (lines : List FaultLine) (p : NodeId) : Type 0 where
+-- some steps led from the start of the scene's world to a state in which this node is the first that has a next step,
+-- the fault lines being spent by these steps, and the store holds what it holds in that state
+pub record IsLeftOver (start : Start) (was left : StoreValue) (cast : Cast) (lines : List FaultLine) (p : NodeId)
+    : Type 0 where
   pub steps : List Step
   pub state : State
-  pub made : IsTrue left.is_honest → all_made (opening cast) steps ≡ Ok state
+  pub made : IsTrue left.is_honest → Leads start was.content cast steps state
   pub next : IsTrue left.is_honest → first_unfinished state (spent_by lines steps) ≡ Some p
   pub kept : IsTrue left.is_honest → left.content ≡ state.content
 
@@ -53,7 +64,7 @@ is_fault_since before world stores.Damaged = not world.is_honest
 is_fault_since before world stores.Full =
     not world.is_honest || (is_some world.state.found && is_full world.state.content)
 
--- the refusal is due in this world, whose store had these counts at the opening: the limit of steps where it is
+-- the refusal is due in this world, whose store had these counts at the start: the limit of steps where it is
 -- reached, a refusal of the store, want of memory; no other while the store is honest
 abbrev pub is_run_cause : Counts → Standing → StepError → Bool
 is_run_cause before world refusals.StepLimit = not world.is_honest || is_at_limit world.state
@@ -66,26 +77,32 @@ abbrev pub IsRefusedAt : Counts → Journal → ℕ → StepError → Type 0
 IsRefusedAt before j at cause = (at ≡ length j.steps + 1) × IsTrue (is_run_cause before j.world cause)
 
 -- some journal has this store, and to it a step was refused
-pub record IsRefusedStep (was left : StoreValue) (cast : Cast) (at : ℕ) (cause : StepError) : Type 0 where
+pub record IsRefusedStep (start : Start) (was left : StoreValue) (cast : Cast) (at : ℕ) (cause : StepError)
+    : Type 0 where
   pub journal : Journal
   pub store : left ≡ store_of journal.world
-  pub made : IsTrue journal.world.is_honest → all_made (opening cast) journal.steps ≡ Ok journal.world.state
+  pub made : IsTrue journal.world.is_honest → Leads start was.content cast journal.steps journal.world.state
   pub refused : IsRefusedAt was.counts journal at cause
 
 -- some journal has this store, and its steps led to its world
-pub record IsGivenUp (left : StoreValue) (cast : Cast) : Type 0 where
+pub record IsGivenUp (start : Start) (was left : StoreValue) (cast : Cast) : Type 0 where
   pub journal : Journal
   pub store : left ≡ store_of journal.world
-  pub made : IsTrue journal.world.is_honest → all_made (opening cast) journal.steps ≡ Ok journal.world.state
+  pub made : IsTrue journal.world.is_honest → Leads start was.content cast journal.steps journal.world.state
+
+-- the world of the scene, which was to begin so, did not
+abbrev pub IsNoStart : Start → (was left : StoreValue) → Cast → StartError → Type 0
+IsNoStart start was left cast cause = IsErrorOf start cause × IsUnbegun cast was left cause
 
 -- what is known of a run that did not come to its end; of seats that do not fit and of memory no more than what the
 -- steps have left
-abbrev pub IsStopped : (was left : StoreValue) → Cast → List FaultLine → RunFault → Type 0
-IsStopped was left cast lines (runs.Open cause) = IsOpenRefused was left cause
-IsStopped was left cast lines (runs.Step at cause) = IsRefusedStep was left cast at cause
-IsStopped was left cast lines (runs.Close cause) = IsGivenUp left cast
-IsStopped was left cast lines runs.Memory = IsGivenUp left cast
-IsStopped was left cast lines (runs.Unfinished node) = IsLeftOver left cast lines node
+abbrev pub IsStopped : Start → (was left : StoreValue) → Cast → List FaultLine → RunFault → Type 0
+IsStopped start was left cast lines (runs.Open cause) = IsNoStart start was left cast (unbegun.Open cause)
+IsStopped start was left cast lines (runs.Resume cause) = IsNoStart start was left cast (unbegun.Resume cause)
+IsStopped start was left cast lines (runs.Step at cause) = IsRefusedStep start was left cast at cause
+IsStopped start was left cast lines (runs.Close cause) = IsGivenUp start was left cast
+IsStopped start was left cast lines runs.Memory = IsGivenUp start was left cast
+IsStopped start was left cast lines (runs.Unfinished node) = IsLeftOver start was left cast lines node
 
 -- ---- what is left
 
@@ -94,26 +111,28 @@ abbrev pub left_value : {S : Type 0} → (S → StoreValue) → Left S → Store
 left_value value (lefts.Store store) = value store
 left_value value (lefts.Journal j) = store_of j.world
 
-abbrev pub IsUnopenedFault : RunFault → Type 0
-IsUnopenedFault (runs.Open cause) = Unit {0}
-IsUnopenedFault fault = ⊥
+abbrev pub IsUnbegunFault : RunFault → Type 0
+IsUnbegunFault (runs.Open cause) = Unit {0}
+IsUnbegunFault (runs.Resume cause) = Unit {0}
+IsUnbegunFault fault = ⊥
 
 -- the fault as the journal shows it
 abbrev pub IsShown : Counts → List FaultLine → Journal → RunFault → Type 0
 IsShown before lines j (runs.Open cause) = ⊥
+IsShown before lines j (runs.Resume cause) = ⊥
 IsShown before lines j (runs.Step at cause) = IsRefusedAt before j at cause
 IsShown before lines j (runs.Close cause) = Unit {0}
 IsShown before lines j runs.Memory = Unit {0}
 IsShown before lines j (runs.Unfinished node) =
     IsTrue j.world.is_honest → first_unfinished j.world.state (spent_by lines j.steps) ≡ Some node
 
--- the steps of the journal lead from the opening of the scene to its world, and it shows the fault
-pub record IsLeftJournal (before : Counts) (cast : Cast) (lines : List FaultLine) (fault : RunFault) (j : Journal)
-    : Type 0 where
-  pub made : IsTrue j.world.is_honest → all_made (opening cast) j.steps ≡ Ok j.world.state
-  pub shown : IsShown before lines j fault
+-- the steps of the journal lead from the start of the scene's world to its own, and it shows the fault
+pub record IsLeftJournal (start : Start) (was : StoreValue) (cast : Cast) (lines : List FaultLine) (fault : RunFault)
+    (j : Journal) : Type 0 where
+  pub made : IsTrue j.world.is_honest → Leads start was.content cast j.steps j.world.state
+  pub shown : IsShown was.counts lines j fault
 
--- the store is given back where no world was opened; else the journal is
-abbrev pub IsLeft : {S : Type 0} → Counts → Cast → List FaultLine → RunFault → Left S → Type 0
-IsLeft before cast lines fault (lefts.Store store) = IsUnopenedFault fault
-IsLeft before cast lines fault (lefts.Journal j) = IsLeftJournal before cast lines fault j
+-- the store is given back where no world began; else the journal is
+abbrev pub IsLeft : {S : Type 0} → Start → StoreValue → Cast → List FaultLine → RunFault → Left S → Type 0
+IsLeft start was cast lines fault (lefts.Store store) = IsUnbegunFault fault
+IsLeft start was cast lines fault (lefts.Journal j) = IsLeftJournal start was cast lines fault j

@@ -3,3 +3,4 @@ pub mod Midway
 pub mod Unanswered
 pub mod Halting
 pub mod Serving
+pub mod Unbegun

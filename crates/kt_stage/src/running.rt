@@ -6,7 +6,7 @@ ghost use Rattle.kt_stage.specs.contracts.stage.Stage.{the_row as stage_row};
 ghost use Rattle.kt_stage.specs.Journal.{Replays, all_made};
 ghost use Rattle.kt_stage.specs.Order.{nodes_of};
 ghost use Rattle.kt_stage.specs.Policy.{first_unfinished, spent_by};
-ghost use Rattle.kt_stage.specs.Running.{IsLeft, IsStopped, left_value};
+ghost use Rattle.kt_stage.specs.Running.{IsLeft, IsStopped, Leads, left_value};
 ghost use Rattle.kt_core.specs.Store.{AreLater, IsLeftSome, store_value};
 ghost use Rattle.kt_stage.specs.inner.Halting.{IsHalted};
 ghost use Rattle.kt_store.specs.Content.{is_fresh};
@@ -21,7 +21,7 @@ use crate::naming::Naming;
 use crate::playing::{Halted, Player, play_to_end};
 use crate::seat::Seat;
 use crate::stage::{Stage, node_count};
-use kt_core::{Faults, OpenError, Scene, StepError, World};
+use kt_core::{Faults, OpenError, ResumeError, Scene, Start, StartError, StepError, World};
 use kt_store::{CkptStore, StoreError};
 use kt_tuple::NodeId;
 use std::alloc::{AllocError, Global};
@@ -38,6 +38,9 @@ pub enum RunFault {
     /// The world was not opened, for this reason; no step was made.
     #[error("Open")]
     Open(OpenError),
+    /// The world was not resumed, for this reason; no step was made.
+    #[error("Resume")]
+    Resume(ResumeError),
     /// A step was refused. Counted from 1, `at` is the place in the journal that it would have had.
     #[error("Step")]
     Step { at: u64, cause: StepError },
@@ -52,10 +55,24 @@ pub enum RunFault {
     Unfinished { node: NodeId },
 }
 
+impl From<StartError> for RunFault {
+    ghost use Rattle.std.specs.Prelude.{◌≡◌};
+    ghost use Rattle.kt_stage.specs.inner.Unbegun.{fault_of};
+
+    ghost from_gives = { λ cause fault. fault ≡ fault_of cause };
+
+    fn from(cause: StartError) -> RunFault {
+        match cause {
+            StartError::Open(cause) => RunFault::Open(cause),
+            StartError::Resume(cause) => RunFault::Resume(cause),
+        }
+    }
+}
+
 /// What is left of a run that did not come to its end.
 #[derive(Debug, Drop)]
 pub enum Left<S: CkptStore> {
-    /// The store: no world was opened over it.
+    /// The store: no world began over it.
     Store(S),
     /// The journal: the world, and all steps that were made.
     Journal(Journal<S>),
@@ -212,9 +229,9 @@ where
     ensures fresh { IfOk result (λ j. IsTrue j.world.is_honest → is_fresh (S.content store) ≡ true) }
     ensures later { IfOk result (λ j. AreLater (S.counts store) j.world.counts) }
     ensures stopped { IfErr result (λ fault. IsLeftSome (store_value S.CkptStore) (λ left.
-        IsStopped (store_value S.CkptStore store) left scene faults fault)) }
+        IsStopped Start.Open (store_value S.CkptStore store) left scene faults fault)) }
 {
-    match run_threads_over(rt, alloc, scene, faults, store, gate) {
+    match run_threads_over(rt, alloc, Start::Open, scene, faults, store, gate) {
         Ok(journal) => Ok(journal),
         Err((fault, left)) => {
             drop(left.into_store());
@@ -223,12 +240,14 @@ where
     }
 }
 
-/// As `run_threads`, and gives back what is left where the run ends early: the journal of the steps that were made, or,
-/// where no world was opened, the store. `run_threads` drops it, so its clauses can name nothing that a caller sees;
-/// these speak of what is given back (docs/DECISIONS.md#the-report).
+/// As `run_threads`, over a world that begins so: opened, or resumed. It gives back what is left where the run ends
+/// early: the journal of the steps that were made, or, where no world began, the store. `run_threads` drops it, so its
+/// clauses can name nothing that a caller sees; these speak of what is given back (docs/DECISIONS.md#the-report). The
+/// own steps by which fault lines are due are counted from the start of the world.
 pub fn run_threads_over<R, S, G>(
     rt: &R,
     alloc: Global,
+    start: Start,
     scene: Scene,
     faults: Faults,
     store: S,
@@ -239,18 +258,17 @@ where
     S: CkptStore + Send + Drop,
     G: Gate + Sync,
     ensures replays { IfOk result (λ j.
-        IsTrue j.world.is_honest → all_made (opening scene) j.steps ≡ Ok j.world.state) }
+        IsTrue j.world.is_honest → Leads start (S.content store) scene j.steps j.world.state) }
     ensures finished { IfOk result (λ j.
         IsTrue j.world.is_honest → first_unfinished j.world.state (spent_by faults j.steps) ≡ None) }
-    ensures fresh { IfOk result (λ j. IsTrue j.world.is_honest → is_fresh (S.content store) ≡ true) }
     ensures later { IfOk result (λ j. AreLater (S.counts store) j.world.counts) }
-    ensures stopped { IfErr result (λ e. IsStopped (store_value S.CkptStore store)
+    ensures stopped { IfErr result (λ e. IsStopped start (store_value S.CkptStore store)
         (left_value (store_value S.CkptStore) e.1) scene faults e.0) }
-    ensures left { IfErr result (λ e. IsLeft (S.counts store) scene faults e.0 e.1) }
+    ensures left { IfErr result (λ e. IsLeft start (store_value S.CkptStore store) scene faults e.0 e.1) }
 {
-    let world = match World::open(alloc, scene, store) {
+    let world = match start.begin(alloc, scene, store) {
         Ok(world) => world,
-        Err(refused) => return Err((RunFault::Open(refused.cause), Left::Store(refused.store))),
+        Err(refused) => return Err((RunFault::from(refused.cause), Left::Store(refused.store))),
     };
     let blank = Blank::new(node_count(&world));
     let mut journal = match run_on::<R, S, Brand, G>(rt, alloc, world, blank, &faults, gate) {

@@ -1,10 +1,14 @@
 -- What a parse by the program's own command line can give.
 use Rattle.std.proofs.Common.{◌≡◌, Bool, true, false, cond, List, [], ◌∷◌, Option, Some, None, option_map, codes, ap, refl, subst, sym, inl, inr, ◌∙◌}
-use Rattle.std.specs.Prelude.{◌⊎◌, if◌then◌else◌, is_some, option_and_then, unwrap_or}
+use Rattle.std.specs.Prelude.{◌⊎◌, ◌&&◌, not, if◌then◌else◌, is_some, option_and_then, unwrap_or}
 use Rattle.std.specs.Borrow.{Bor}
 use Rattle.clap.specs.Words.{App, HasMatchesOf, Kinds, Row, Shape, Text, built, fault_of, first_of, first_value, found_of, is_simple, rows_of}
 use Rattle.clap.specs.Words.{subcommand_of, subcommand_name_of, subcommand_rows_of}
-use Rattle.clap.specs.Kinds.{or_else}
+use Rattle.clap.specs.Kinds.{HasKind, IsAmong, or_else}
+use Rattle.clap.specs.Values.{kind_of}
+use Rattle.clap.specs.declared.error.Error.{Error}
+use Rattle.clap.specs.declared.error.kind.ErrorKind.{ErrorKind}
+use Rattle.clap.specs.declared.error.kind.ErrorKind.TheVariants.{MissingRequiredArgument}
 use Rattle.clap.specs.Walk.{Held, Names, finished, nothing_held, settled, walk, walk_from}
 use Rattle.clap.specs.Simple.{entered, names_of, rows_at}
 use Rattle.clap.specs.Faults.{check_fault, defaults_fault, entered_fault, level_fault, settle_fault, walk_fault}
@@ -14,11 +18,13 @@ use Rattle.clap.specs.declared.parser.matches.ArgMatches.TheViews.{out-ArgMatche
 use Rattle.clap.proofs.WalkLemmas.{first_value-rows}
 use Rattle.kt_command.specs.declared.command.Command.{Command}
 use Rattle.kt_command.specs.Command.{Asked, Carries, Makes, command_of, is_word}
-use Rattle.linda_kt.specs.Words.{asked_by, command_line_app, has_flag, is_true, request_of, required_text, words_fault}
+use Rattle.linda_kt.specs.Words.{asked_by, command_line_app, forgotten, has_flag, is_true, or_forgotten, request_of, required_text}
+use Rattle.linda_kt.specs.Words.{words_fault}
 
 -- the text is there, and is the name of a command
 abbrev pub IsCommand : Option Text → Type 0
-IsCommand o = (o ≡ Some (codes "replay")) ⊎ ((o ≡ Some (codes "run")) ⊎ (o ≡ Some (codes "migrate")))
+IsCommand o =
+    (o ≡ Some (codes "replay")) ⊎ ((o ≡ Some (codes "run")) ⊎ ((o ≡ Some (codes "resume")) ⊎ (o ≡ Some (codes "migrate"))))
 
 -- where two steps have no fault, the second has none
 rest_empty : (a b : Kinds) → or_else a b ≡ [] → b ≡ []
@@ -44,24 +50,25 @@ checks_pass : (rows : List Row) (has : Bool) → check_fault (built command_line
 checks_pass rows true e = refl
 checks_pass rows false e = cc
 
--- the shape that is found among three, by the tests of each
-abbrev pub first_found : (b d f : Bool) (r s t : Shape) → Option Shape
-first_found b d f r s t = cond b (Some r) (cond d (Some s) (cond f (Some t) None))
+-- the shape that is found among four, by the tests of each
+abbrev pub first_found : (b d f g : Bool) (r s t u : Shape) → Option Shape
+first_found b d f g r s t u = cond b (Some r) (cond d (Some s) (cond f (Some t) (cond g (Some u) None)))
 
--- a command that is found is one of the three
-found_is : (b d f : Bool) (r s t : Shape) (words : List Text)
-    → is_some (option_map (λ s. rows_at s words) (first_found b d f r s t)) ≡ true
-    → let name = option_map (λ p. p.0) (option_map (λ s. rows_at s words) (first_found b d f r s t)) in
-    (name ≡ Some r.name) ⊎ ((name ≡ Some s.name) ⊎ (name ≡ Some t.name))
-found_is true d f r s t words e = inl refl
-found_is false true f r s t words e = inr (inl refl)
-found_is false false true r s t words e = inr (inr refl)
-found_is false false false r s t words e = cc
+-- a command that is found is one of the four
+found_is : (b d f g : Bool) (r s t u : Shape) (words : List Text)
+    → is_some (option_map (λ s. rows_at s words) (first_found b d f g r s t u)) ≡ true
+    → let name = option_map (λ p. p.0) (option_map (λ s. rows_at s words) (first_found b d f g r s t u)) in
+    (name ≡ Some r.name) ⊎ ((name ≡ Some s.name) ⊎ ((name ≡ Some t.name) ⊎ (name ≡ Some u.name)))
+found_is true d f g r s t u words e = inl refl
+found_is false true f g r s t u words e = inr (inl refl)
+found_is false false true g r s t u words e = inr (inr (inl refl))
+found_is false false false true r s t u words e = inr (inr (inr refl))
+found_is false false false false r s t u words e = cc
 
 entered_is : (stop : Option (Text × List Text)) → is_some (entered (built command_line_app) stop) ≡ true
     → IsCommand (option_map (λ p. p.0) (entered (built command_line_app) stop))
 entered_is None e = cc
-entered_is (Some p) e = found_is _ _ _ _ _ _ p.1 e
+entered_is (Some p) e = found_is _ _ _ _ _ _ _ _ p.1 e
 
 -- words without a fault name a command
 pub names_command : (words : List Text) → fault_of command_line_app words ≡ []
@@ -89,13 +96,30 @@ met_command a words m same has none =
     subst IsCommand name (names_command words (sym (ap (λ x. fault_of x words) same) ∙ none))
 
 -- a parse of words without a fault is one of the program's own command line
-pub has_no_fault : (a : App) (words : List Text) → a ≡ command_line_app → fault_of a words ≡ [] → words_fault words ≡ []
+has_no_fault : (a : App) (words : List Text) → a ≡ command_line_app → fault_of a words ≡ [] → fault_of command_line_app words ≡ []
 has_no_fault a words same none = sym (ap (λ x. fault_of x words) same) ∙ none
 
--- whether the flag stands among a command's words, by the text that is lent for it
-pub flag_of : (f : Found) (text : Option (Bor Text)) → option_map (λ (s : Bor Text). s.now) text ≡ first_value f (codes "journal")
-    → is_true (option_map (λ (s : Bor Text). s.now) text) ≡ has_flag (rows_of f)
-flag_of f text read = ap is_true (read ∙ first_value-rows f (codes "journal"))
+-- a kind that the rules of `clap` have stays one of the words
+kept_kind : (k : ErrorKind) (kinds : Kinds) (found : Option (Text × List Row)) → IsAmong k kinds → IsAmong k (or_forgotten kinds found)
+kept_kind k [] found among = absurd among
+kept_kind k (x ∷ xs) found among = among
+
+-- an error of the parse has a kind of the words' fault
+pub still_fails : (a : App) (words : List Text) (e : Error) → a ≡ command_line_app → HasKind (fault_of a words) e
+    → HasKind (words_fault words) e
+still_fails a words e same (inl memory) = inl memory
+still_fails a words e same (inr among) =
+    inr (kept_kind _ _ (subcommand_of command_line_app words)
+    (subst (λ (x : App). IsAmong (kind_of e) (fault_of x words)) same among))
+
+some_stays : (o : Option (Bor Text)) → is_some (option_map (λ (s : Bor Text). s.now) o) ≡ is_some o
+some_stays None = refl
+some_stays (Some s) = refl
+
+-- whether a flag stands among a command's words, by the text that is lent for it
+pub flag_of : (flag : Text) (f : Found) (text : Option (Bor Text)) → option_map (λ (s : Bor Text). s.now) text ≡ first_value f flag
+    → is_true (option_map (λ (s : Bor Text). s.now) text) ≡ has_flag flag (rows_of f)
+flag_of flag f text read = ap is_true (read ∙ first_value-rows f flag)
 
 -- a subcommand as `clap` lends it: its name, and the matches of its own words
 abbrev pub Lent : Type 0
@@ -106,11 +130,13 @@ pub is_that : (o : Option Lent) (p : Lent) (n : Text) → option_map (λ (q : Le
 is_that o p n e some = let same : Some p.0.now ≡ Some n = ap (option_map (λ (q : Lent). q.0.now)) (sym some) ∙ e in cc
 
 -- a command that is met and does not carry a file over is known
-pub is_known : (o : Option Lent) (p : Lent) (has_flag : Bool) → IsCommand (option_map (λ (q : Lent). q.0.now) o)
-    → is_word p.0.now (codes "migrate") ≡ false → o ≡ Some p → is_some (command_of p.0.now has_flag) ≡ true
-is_known o p has_flag (inl e) other some = ap (λ (t : Text). is_some (command_of t has_flag)) (is_that o p _ e some)
-is_known o p has_flag (inr (inl e)) other some = ap (λ (t : Text). is_some (command_of t has_flag)) (is_that o p _ e some)
-is_known o p has_flag (inr (inr e)) other some =
+pub is_known : (o : Option Lent) (p : Lent) (is_resumed has_journal : Bool) → IsCommand (option_map (λ (q : Lent). q.0.now) o)
+    → is_word p.0.now (codes "migrate") ≡ false → o ≡ Some p → is_some (command_of p.0.now is_resumed has_journal) ≡ true
+is_known o p is_resumed has_journal (inl e) other some = ap (λ (t : Text). is_some (command_of t is_resumed has_journal)) (is_that o p _ e some)
+is_known o p is_resumed has_journal (inr (inl e)) other some = ap (λ (t : Text). is_some (command_of t is_resumed has_journal)) (is_that o p _ e some)
+is_known o p is_resumed has_journal (inr (inr (inl e))) other some =
+    ap (λ (t : Text). is_some (command_of t is_resumed has_journal)) (is_that o p _ e some)
+is_known o p is_resumed has_journal (inr (inr (inr e))) other some =
     let no : true ≡ false = sym (ap (λ (t : Text). is_word t (codes "migrate")) (is_that o p _ e some)) ∙ other in
     cc
 
@@ -137,19 +163,37 @@ met_is a words m o p same has name rows some =
     sym rows ∙ ap (option_map (λ (q : Lent). rows_of (found_of q.1.now))) some in
     sym met ∙ both (subcommand_rows_of m) _ _ first second
 
+-- what is wrong with words that pass the rules of `clap`: a run goes on, and no file is named
+pub fault_is : (a : App) (words : List Text) (m : ArgMatches) (o : Option Lent) (p : Lent) (is_resumed : Bool) (store : Option (Bor Text))
+    → a ≡ command_line_app → HasMatchesOf a words m → fault_of a words ≡ []
+    → option_map (λ (q : Lent). q.0.now) o ≡ subcommand_name_of m
+    → option_map (λ (q : Lent). rows_of (found_of q.1.now)) o ≡ option_map (λ p. p.1) (subcommand_rows_of m) → o ≡ Some p
+    → is_resumed ≡ has_flag (codes "resume") (rows_of (found_of p.1.now))
+    → option_map (λ (s : Bor Text). s.now) store ≡ first_value (found_of p.1.now) (codes "store")
+    → words_fault words ≡ (if is_resumed && not (is_some store) then MissingRequiredArgument ∷ [] else [])
+fault_is a words m o p is_resumed store same has none name rows some flag file =
+    let found : List Row = rows_of (found_of p.1.now) in
+    let of_file : is_some (first_of (codes "store") found) ≡ is_some store =
+    ap is_some (sym (file ∙ first_value-rows (found_of p.1.now) (codes "store"))) ∙ some_stays store in
+    ap (λ (k : Kinds). or_forgotten k (subcommand_of command_line_app words)) (has_no_fault a words same none)
+    ∙ ap forgotten (met_is a words m o p same has name rows some)
+    ∙ ap (λ (b : Bool). if b && not (is_some (first_of (codes "store") found)) then MissingRequiredArgument ∷ [] else []) (sym flag)
+    ∙ ap (λ (b : Bool). if is_resumed && not b then MissingRequiredArgument ∷ [] else []) of_file
+
 -- the command and the file that were met are those that the words name
 pub asked_is : (a : App) (words : List Text) (m : ArgMatches) (o : Option Lent) (p : Lent) (command : Command) (store : Option (Bor Text))
     → a ≡ command_line_app → HasMatchesOf a words m → option_map (λ (q : Lent). q.0.now) o ≡ subcommand_name_of m
     → option_map (λ (q : Lent). rows_of (found_of q.1.now)) o ≡ option_map (λ p. p.1) (subcommand_rows_of m) → o ≡ Some p
     → is_word p.0.now (codes "migrate") ≡ false
-    → command_of p.0.now (has_flag (rows_of (found_of p.1.now))) ≡ Some command
+    → command_of p.0.now (has_flag (codes "resume") (rows_of (found_of p.1.now))) (has_flag (codes "journal") (rows_of (found_of p.1.now)))
+    ≡ Some command
     → option_map (λ (s : Bor Text). s.now) store ≡ first_value (found_of p.1.now) (codes "store")
     → asked_by words ≡ Some (Makes command (option_map (λ (s : Bor Text). s.now) store))
 asked_is a words m o p command store same has name rows some other is file =
     let found : List Row = rows_of (found_of p.1.now) in
     let of_file : first_of (codes "store") found ≡ option_map (λ (s : Bor Text). s.now) store =
     sym (file ∙ first_value-rows (found_of p.1.now) (codes "store")) in
-    let made : Option Asked = option_map (λ (c : Command). Makes c (first_of (codes "store") found)) (command_of p.0.now (has_flag found)) in
+    let made : Option Asked = option_map (λ (c : Command). Makes c (first_of (codes "store") found)) (command_of p.0.now (has_flag (codes "resume") found) (has_flag (codes "journal") found)) in
     ap (option_and_then request_of) (met_is a words m o p same has name rows some)
     ∙ ap (λ (b : Bool). if b then Some (Carries (required_text (first_of (codes "store") found))) else made) other
     ∙ ap (option_map (λ (c : Command). Makes c (first_of (codes "store") found))) is
@@ -172,7 +216,7 @@ carried_is a words m o p store none text same has name rows some this file is em
     let found : List Row = rows_of (found_of p.1.now) in
     let of_file : first_of (codes "store") found ≡ option_map (λ (s : Bor Text). s.now) store =
     sym (file ∙ first_value-rows (found_of p.1.now) (codes "store")) in
-    let made : Option Asked = option_map (λ (c : Command). Makes c (first_of (codes "store") found)) (command_of p.0.now (has_flag found)) in
+    let made : Option Asked = option_map (λ (c : Command). Makes c (first_of (codes "store") found)) (command_of p.0.now (has_flag (codes "resume") found) (has_flag (codes "journal") found)) in
     ap (option_and_then request_of) (met_is a words m o p same has name rows some)
     ∙ ap (λ (b : Bool). if b then Some (Carries (required_text (first_of (codes "store") found))) else made) this
     ∙ ap (λ (f : Option Text). Some (Carries (required_text f))) of_file

@@ -1,6 +1,7 @@
 //! The program: `linda_kt replay` reads a scenario on standard input, makes its steps and writes the report to standard
-//! output. `linda_kt run` runs one by a thread for each node. With `--store FILE` checkpoints are kept in a file, and
-//! `linda_kt migrate --store FILE` carries such a file of the version before over.
+//! output. `linda_kt run` runs one by a thread for each node. With `--store FILE` checkpoints are kept in a file.
+//! `linda_kt resume --store FILE` and `linda_kt run --resume --store FILE` go on from such a file after a stop, and
+//! `linda_kt migrate --store FILE` carries one of the version before over.
 //!
 //! - Contract: `run_program`, clause `told`: words without a fault do their command over the store that they name, and
 //!   the exit status says how it ended; what `linda_kt` writes is what that command may write.

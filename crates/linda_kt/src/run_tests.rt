@@ -2,7 +2,7 @@
 use crate::tests::run;
 use kt_command::end_run;
 use kt_run::RunTextFault;
-use kt_scene::{OpenError, ReplayFault, SceneError, StepError};
+use kt_scene::{OpenError, ReplayFault, ResumeError, SceneError, StepError};
 use kt_stage::{CloseError, RunFault};
 use kt_store::StoreError;
 use kt_tuple::NodeId;
@@ -55,7 +55,7 @@ fn kinds_of_work(rt: HostRuntime) -> Result<(), Fail> {
 const NODE: NodeId = NodeId::Shard(2);
 
 /// Faults of a run, the line on the errors, and the status.
-const FAULTS: [(RunTextFault, &str, u8); 11] = [
+const FAULTS: [(RunTextFault, &str, u8); 13] = [
     (
         RunTextFault::Text(ReplayFault::Scene {
             line: 7,
@@ -78,6 +78,18 @@ const FAULTS: [(RunTextFault, &str, u8); 11] = [
     ),
     (
         RunTextFault::Run(RunFault::Open(OpenError::OutOfMemory)),
+        "memory\n",
+        6,
+    ),
+    (
+        RunTextFault::Run(RunFault::Resume(ResumeError::Unfit {
+            node: NodeId::Shard(1),
+        })),
+        "store: Unfit\n",
+        5,
+    ),
+    (
+        RunTextFault::Run(RunFault::Resume(ResumeError::OutOfMemory)),
         "memory\n",
         6,
     ),

@@ -1,13 +1,13 @@
 //! The words of the command line.
-ghost use Rattle.std.specs.Prelude.{◌≡◌, ◌⊎◌, false, IfOk, Some};
+ghost use Rattle.std.specs.Prelude.{◌≡◌, ◌⊎◌, false, IfErr, IfOk, Some};
 ghost use Rattle.clap.specs.Words.{app_of, FailsBy, found_of, kind_of, rows_of, rule_of};
 ghost use Rattle.clap.specs.declared.builder.command.Command.TheViews.{out-Command as fields_of};
 ghost use Rattle.clap.specs.Simple.{shape_of};
 ghost use Rattle.kt_command.specs.Asking.{asked};
 ghost use Rattle.kt_command.specs.Command.{texts};
-ghost use Rattle.linda_kt.specs.Words.{asked_by, command_line_app, has_flag, journal_rule, migrate_shape};
-ghost use Rattle.linda_kt.specs.Words.{old_store_rule, program_app, replay_shape, run_shape, running_app, store_rule};
-ghost use Rattle.linda_kt.specs.Words.{words_fault};
+ghost use Rattle.linda_kt.specs.Words.{asked_by, command_line_app, has_flag, journal_rule, kept_store_rule};
+ghost use Rattle.linda_kt.specs.Words.{migrate_shape, old_store_rule, opening_app, program_app, replay_shape};
+ghost use Rattle.linda_kt.specs.Words.{resume_rule, resume_shape, run_shape, running_app, store_rule, words_fault};
 
 use clap::error::ErrorKind;
 use clap::{Arg, ArgAction, ArgMatches, Error};
@@ -24,23 +24,41 @@ pub fn read_words<'a>(alloc: Global, words: &'a [&'a str]) -> Result<Request<'a>
     // Words that pass have one of the names.
     let (name, options) = matches.subcommand().unwrap();
     let store = options.get_str("store");
+    let is_resumed = has_flag(options, "resume");
+    if is_resumed && store.is_none() {
+        return Err(forgotten_file(alloc));
+    }
     if name == "migrate" {
         // Words that pass name the file, so no request has the empty text.
         let store = store.unwrap_or("");
         return Ok(Request::Migrate { store });
     }
-    let command = Command::of_name(name, has_journal(options)).unwrap();
+    let command = Command::of_name(name, is_resumed, has_flag(options, "journal")).unwrap();
     Ok(Request::Make { command, store })
 }
 
-/// Whether `--journal` stands among a command's words.
-fn has_journal(options: &ArgMatches<'_>) -> bool
-    ensures { result ≡ has_flag (rows_of (found_of options.now)) }
+/// Whether the flag stands among a command's words.
+fn has_flag(options: &ArgMatches<'_>, flag: &str) -> bool
+    ensures { result ≡ has_flag flag.now (rows_of (found_of options.now)) }
 {
     // Of a flag that stands there the text is that of `true`.
-    match options.get_str("journal") {
+    match options.get_str(flag) {
         Some(text) => text == "true",
         None => false,
+    }
+}
+
+/// The error for a run that is to go on from a file and names none. The grammar can't say that one word wants another.
+fn forgotten_file(alloc: Global) -> Error
+    ensures { (kind_of result ≡ ErrorKind.MissingRequiredArgument) ⊎ (kind_of result ≡ ErrorKind.OutOfMemory) }
+{
+    match refusal(
+        alloc,
+        ErrorKind::MissingRequiredArgument,
+        "the argument '--resume' wants '--store <FILE>'",
+    ) {
+        Ok(error) => error,
+        Err(error) => Error::from(error),
     }
 }
 
@@ -55,6 +73,15 @@ fn command_line<'a>(alloc: Global) -> Result<clap::Command<'a>, AllocError>
 /// The grammar with the commands over a store alone.
 fn running_commands<'a>(alloc: Global) -> Result<clap::Command<'a>, AllocError>
     ensures app { IfOk result (λ c. app_of c ≡ running_app) }
+    ensures local { IfOk result (λ c. (fields_of c).has_globals ≡ false) }
+{
+    let resume = resume_command(alloc)?;
+    opening_commands(alloc)?.subcommand(resume)
+}
+
+/// The grammar with the commands that a store in memory is enough for.
+fn opening_commands<'a>(alloc: Global) -> Result<clap::Command<'a>, AllocError>
+    ensures app { IfOk result (λ c. app_of c ≡ opening_app) }
     ensures local { IfOk result (λ c. (fields_of c).has_globals ≡ false) }
 {
     let replay = replay_command(alloc)?;
@@ -79,7 +106,19 @@ fn replay_command<'a>(alloc: Global) -> Result<clap::Command<'a>, AllocError>
     replay.arg(store_option(alloc))
 }
 
-/// `run` with its option and its flag.
+/// `resume` with its option, which must stand.
+fn resume_command<'a>(alloc: Global) -> Result<clap::Command<'a>, AllocError>
+    ensures shape { IfOk result (λ c. shape_of c ≡ resume_shape) }
+    ensures local { IfOk result (λ c. (fields_of c).has_globals ≡ false) }
+{
+    let resume = clap::Command::new(alloc, "resume").about(
+        "Goes on from a store after the program was stopped: makes the steps of the scenario on standard input and \
+         writes the report to standard output",
+    );
+    resume.arg(kept_store_option(alloc))
+}
+
+/// `run` with its option and its flags.
 fn run_command<'a>(alloc: Global) -> Result<clap::Command<'a>, AllocError>
     ensures shape { IfOk result (λ c. shape_of c ≡ run_shape) }
     ensures local { IfOk result (λ c. (fields_of c).has_globals ≡ false) }
@@ -87,7 +126,9 @@ fn run_command<'a>(alloc: Global) -> Result<clap::Command<'a>, AllocError>
     let run = clap::Command::new(alloc, "run").about(
         "Runs the scenario on standard input, by a thread for each node, and writes the report to standard output",
     );
-    run.arg(store_option(alloc))?.arg(journal_flag(alloc))
+    run.arg(store_option(alloc))?
+        .arg(journal_flag(alloc))?
+        .arg(resume_flag(alloc))
 }
 
 /// `migrate` with its option, which must stand.
@@ -111,7 +152,20 @@ fn journal_flag<'a>(alloc: Global) -> Arg<'a>
         .long("journal")
         .action(ArgAction::SetTrue)
         .help(
-            "Writes the report as remarks, and then the steps that were made, as a scenario for replay",
+            "Writes the report as remarks, and then the steps that were made, as a scenario for replay or resume",
+        )
+}
+
+/// `--resume`.
+fn resume_flag<'a>(alloc: Global) -> Arg<'a>
+    ensures rule { rule_of result ≡ resume_rule }
+    ensures local { result.global ≡ false }
+{
+    Arg::new(alloc, "resume")
+        .long("resume")
+        .action(ArgAction::SetTrue)
+        .help(
+            "Goes on from what FILE holds, after the program was stopped; it need not be fresh then",
         )
 }
 
@@ -124,6 +178,20 @@ fn store_option<'a>(alloc: Global) -> Arg<'a>
         .long("store")
         .value_name("FILE")
         .help("Keeps the checkpoints in FILE, which is absent, empty or a fresh store")
+}
+
+/// `--store FILE` of `resume`.
+fn kept_store_option<'a>(alloc: Global) -> Arg<'a>
+    ensures rule { rule_of result ≡ kept_store_rule }
+    ensures local { result.global ≡ false }
+{
+    Arg::new(alloc, "store")
+        .long("store")
+        .value_name("FILE")
+        .required(true)
+        .help(
+            "The store to go on from; one that is absent, empty or fresh was stopped before its first write",
+        )
 }
 
 /// `--store FILE` of `migrate`.
@@ -152,17 +220,19 @@ fn described<'a>(alloc: Global) -> clap::Command<'a>
 pub fn refuse_bytes(alloc: Global) -> Error
     ensures { (kind_of result ≡ ErrorKind.InvalidValue) ⊎ (kind_of result ≡ ErrorKind.OutOfMemory) }
 {
-    match bytes_error(alloc) {
+    match refusal(
+        alloc,
+        ErrorKind::InvalidValue,
+        "invalid UTF-8 was detected in one or more arguments",
+    ) {
         Ok(error) => error,
         Err(error) => Error::from(error),
     }
 }
 
-fn bytes_error(alloc: Global) -> Result<Error, AllocError>
-    ensures { IfOk result (λ e. kind_of e ≡ ErrorKind.InvalidValue) }
+/// An error of this kind, in the form of those of a parse.
+fn refusal(alloc: Global, kind: ErrorKind, message: &str) -> Result<Error, AllocError>
+    ensures { IfOk result (λ e. kind_of e ≡ kind) }
 {
-    command_line(alloc)?.error(
-        ErrorKind::InvalidValue,
-        "invalid UTF-8 was detected in one or more arguments",
-    )
+    command_line(alloc)?.error(kind, message)
 }

@@ -5,8 +5,12 @@ use Rattle.kt_world.specs.declared.step.StepError.{StepError}
 use Rattle.kt_world.specs.Cast.{Cast}
 use Rattle.kt_core.specs.Store.{StoreValue}
 use Rattle.kt_core.specs.Stepping.{step_counted}
-use Rattle.kt_core.specs.World.{IsOpenRefused, Standing}
-use Rattle.kt_world.specs.Reached.{opening}
+use Rattle.kt_core.specs.Starting.{Begins, IsErrorOf, IsUnbegun}
+use Rattle.kt_core.specs.World.{Standing}
+use Rattle.kt_core.specs.declared.start.Start.{Start}
+use Rattle.kt_core.specs.declared.start.StartError.{StartError}
+use Rattle.kt_core.specs.declared.start.StartError.TheVariants as unbegun
+use Rattle.kt_world.specs.State.{State}
 use Rattle.kt_scene.specs.Runs.{IsRefusedAt}
 use Rattle.kt_scene.specs.declared.fault.ReplayFault.{ReplayFault}
 use Rattle.kt_scene.specs.declared.fault.ReplayFault.TheVariants as faults
@@ -21,24 +25,31 @@ abbrev pub IsStepFault : (old new : Standing) → List Step → ReplayFault → 
 IsStepFault old new steps (faults.Scene line cause) = ⊥
 IsStepFault old new steps (faults.Step at cause) = IsStepRefused old new steps at cause
 IsStepFault old new steps (faults.Open cause) = ⊥
+IsStepFault old new steps (faults.Resume cause) = ⊥
 IsStepFault old new steps (faults.Report cause) = ⊥
 IsStepFault old new steps faults.Memory = ⊥
 IsStepFault old new steps faults.Read = ⊥
 IsStepFault old new steps faults.Write = ⊥
 
 -- the first step of a scenario that was refused, and the store that was left
-pub record IsRunRefused (was left : StoreValue) (cast : Cast) (steps : List Step) (at : ℕ) (cause : StepError)
-    : Type 0 where
-  pub refused : IsTrue left.is_honest → IsRefusedAt (opening cast) steps at cause left.content
+pub record IsRunRefused (start : Start) (was left : StoreValue) (cast : Cast) (steps : List Step) (at : ℕ)
+    (cause : StepError) : Type 0 where
+  pub first : State
+  pub begins : IsTrue left.is_honest → Begins start was.content cast first
+  pub refused : IsTrue left.is_honest → IsRefusedAt first steps at cause left.content
   pub counts : left.counts ≡ step_counted {T = Unit {0}} (Err cause) was.counts
 
--- what making the steps of a scenario answers: that the world could not be opened over the store, or the first step
--- refused
-abbrev pub IsRunFault : (was left : StoreValue) → Cast → List Step → ReplayFault → Type 0
-IsRunFault was left cast steps (faults.Scene line cause) = ⊥
-IsRunFault was left cast steps (faults.Step at cause) = IsRunRefused was left cast steps at cause
-IsRunFault was left cast steps (faults.Open cause) = IsOpenRefused was left cause
-IsRunFault was left cast steps (faults.Report cause) = ⊥
-IsRunFault was left cast steps faults.Memory = ⊥
-IsRunFault was left cast steps faults.Read = ⊥
-IsRunFault was left cast steps faults.Write = ⊥
+-- the world of the scene did not begin so
+abbrev pub IsNoStart : Start → (was left : StoreValue) → Cast → StartError → Type 0
+IsNoStart start was left cast cause = IsErrorOf start cause × IsUnbegun cast was left cause
+
+-- what making the steps of a scenario answers: that the world did not begin over the store, or the first step refused
+abbrev pub IsRunFault : Start → (was left : StoreValue) → Cast → List Step → ReplayFault → Type 0
+IsRunFault start was left cast steps (faults.Scene line cause) = ⊥
+IsRunFault start was left cast steps (faults.Step at cause) = IsRunRefused start was left cast steps at cause
+IsRunFault start was left cast steps (faults.Open cause) = IsNoStart start was left cast (unbegun.Open cause)
+IsRunFault start was left cast steps (faults.Resume cause) = IsNoStart start was left cast (unbegun.Resume cause)
+IsRunFault start was left cast steps (faults.Report cause) = ⊥
+IsRunFault start was left cast steps faults.Memory = ⊥
+IsRunFault start was left cast steps faults.Read = ⊥
+IsRunFault start was left cast steps faults.Write = ⊥

@@ -15,9 +15,10 @@ abbrev pub IsGiven : Standing → NodeId → Step → Type 0
 IsGiven world p step =
     IsTrue world.is_honest → (owner step ≡ p) × IsTrue (is_allowed world.state step)
 
--- the fault of a run that was opened and did not come to its end
+-- the fault of a run that began and did not come to its end
 abbrev pub IsHalted : Standing → Journal → RunFault → Type 0
 IsHalted opening j (runs.Open cause) = ⊥
+IsHalted opening j (runs.Resume cause) = ⊥
 IsHalted opening j (runs.Step at cause) = IsRefusedAt opening.counts j at cause
 IsHalted opening j (runs.Close cause) = Unit {0}
 IsHalted opening j runs.Memory = Unit {0}

@@ -2,7 +2,7 @@
 
 use kt_command::{Carries, Command, Opens, Request, run_request};
 use kt_run::Output;
-use kt_scene::{Sink, Source};
+use kt_scene::{Sink, Source, Start};
 use kt_sql::{SqlOpenError, SqlStore};
 use sqlite::{Alter, Connection, FileStore, Files, MemStore, Options};
 use sqlite_disk::{Fuse, Memory};
@@ -17,12 +17,12 @@ use std::thread::Threads;
 const PATH: &str = "a.db";
 
 const REPLAY: Request<'static> = Request::Make {
-    command: Command::Replay,
+    command: Command::Replay(Start::Open),
     store: Some(PATH),
 };
 
 const RUN: Request<'static> = Request::Make {
-    command: Command::Run(Output::Report),
+    command: Command::Run(Start::Open, Output::Report),
     store: Some(PATH),
 };
 

@@ -1,6 +1,6 @@
 //! What a store counts, and what each refusal adds to that.
 
-use kt_core::{OpenError, StepError, World};
+use kt_core::{OpenError, ResumeError, StepError, World};
 use kt_store::{CkptStore, StoreError};
 
 /// How often the device of a store has failed so far, and how often memory was refused.
@@ -64,6 +64,14 @@ impl Counts {
         match cause {
             OpenError::Store(cause) => self.raised_by(cause),
             OpenError::NotFresh | OpenError::OutOfMemory => self,
+        }
+    }
+
+    /// These after a resuming that was refused.
+    pub(crate) fn after_resuming(self, cause: ResumeError) -> Counts {
+        match cause {
+            ResumeError::Store(cause) => self.raised_by(cause),
+            ResumeError::Unfit { .. } | ResumeError::OutOfMemory => self,
         }
     }
 

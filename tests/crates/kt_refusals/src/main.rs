@@ -7,6 +7,7 @@
 mod counts;
 mod fresh;
 mod refusing;
+mod resuming;
 mod runs;
 mod scripts;
 mod seen;
@@ -17,6 +18,7 @@ mod stores;
 mod texts;
 
 use crate::fresh::Fresh;
+use crate::resuming::resumed_in_turn;
 use crate::runs::{replayed_in_turn, run_in_turn, threads_in_turn};
 use crate::scripts::scripts_in_turn;
 use crate::settling::settled_in_turn;
@@ -69,6 +71,7 @@ fn try_steps<W: Wait, S: CkptStore + Fresh + Drop>(
         let moment = Moment { text, before, step };
         try_step::<W, S>(rt, waits, alloc, moment)?;
     }
+    resumed_in_turn::<S>(rt, alloc, text, steps)?;
     checkpoints_in_turn::<S>(rt, alloc, text, steps)?;
     reports_in_turn::<S>(rt, alloc, text, steps)?;
     stores_in_turn::<S>(rt, alloc, text, steps)?;

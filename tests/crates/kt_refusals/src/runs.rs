@@ -2,6 +2,7 @@
 
 use crate::fresh::{Fresh, sink};
 use crate::refusing::{MOST, Turns, never, refuse, was_spared};
+use crate::resuming::is_of_resuming;
 use crate::stepping::is_of_opening;
 use kt_core::StepError;
 use kt_run::{Output, RunTextFault, run_text};
@@ -29,6 +30,7 @@ fn is_of_replay(fault: ReplayFault) -> bool {
         ReplayFault::Scene { cause, .. } => cause == SceneError::OutOfMemory,
         ReplayFault::Step { cause, .. } => is_of_step(cause),
         ReplayFault::Open(cause) => is_of_opening(cause),
+        ReplayFault::Resume(cause) => is_of_resuming(cause),
         ReplayFault::Report(cause) => cause == StoreError::Memory,
         ReplayFault::Memory => true,
         ReplayFault::Read | ReplayFault::Write => false,
@@ -39,6 +41,7 @@ fn is_of_replay(fault: ReplayFault) -> bool {
 fn is_of_run(fault: RunFault) -> bool {
     match fault {
         RunFault::Open(cause) => is_of_opening(cause),
+        RunFault::Resume(cause) => is_of_resuming(cause),
         RunFault::Step { cause, .. } => is_of_step(cause),
         RunFault::Memory => true,
         RunFault::Close(_) | RunFault::Unfinished { .. } => false,

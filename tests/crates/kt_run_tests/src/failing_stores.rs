@@ -2,7 +2,7 @@
 //! on.
 
 use crate::runs::{ROWS, Row, replayed};
-use kt_core::{OpenError, StepError};
+use kt_core::{OpenError, Start, StepError};
 use kt_run::{Output, RunTextFault, run_text_over};
 use kt_scene::{ReplayFault, Sink, Source};
 use kt_stage::{OpenGate, RunFault};
@@ -29,7 +29,10 @@ fn run<T: Threads + Wait + Sync, S: CkptStore + Send + Drop>(
 ) -> (Result<(), RunTextFault>, Vec<u8>, S) {
     let (text, _, _) = *row;
     let (mut source, mut sink) = (Source::new(text), Sink::new(Vec::new(alloc)));
-    let (answer, left) = run_text_over(rt, alloc, &mut source, &mut sink, store, output, &OpenGate);
+    let start = Start::Open;
+    let (answer, left) = run_text_over(
+        rt, alloc, start, &mut source, &mut sink, store, output, &OpenGate,
+    );
     (answer, sink.into_inner(), left)
 }
 

@@ -1,6 +1,6 @@
 //! Runs from bytes to bytes: what is written, and what a replay of the journal writes.
 
-use kt_core::OpenError;
+use kt_core::{OpenError, Start};
 use kt_run::{Output, RunTextFault, run_text, run_text_over};
 use kt_scene::{ReplayFault, Sink, Source, replay};
 use kt_stage::{OpenGate, RunFault};
@@ -110,6 +110,7 @@ fn the_store_is_given_back(rt: HostRuntime) -> Result<(), Fail> {
     let (answer, left) = run_text_over(
         &rt,
         alloc,
+        Start::Open,
         &mut source,
         &mut sink,
         store,
@@ -123,6 +124,7 @@ fn the_store_is_given_back(rt: HostRuntime) -> Result<(), Fail> {
     let (answer, left) = run_text_over(
         &rt,
         alloc,
+        Start::Open,
         &mut source,
         &mut sink,
         left,

@@ -18,6 +18,8 @@ mod mutants;
 #[cfg(test)]
 mod replays;
 #[cfg(test)]
+mod resumes;
+#[cfg(test)]
 mod rollbacks;
 #[cfg(test)]
 mod scenes;

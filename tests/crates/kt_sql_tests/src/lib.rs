@@ -12,6 +12,8 @@ mod damaged;
 #[cfg(test)]
 mod migrations;
 #[cfg(test)]
+mod resumed_stops;
+#[cfg(test)]
 mod spoiled;
 #[cfg(test)]
 mod spoiled_walks;

@@ -14,19 +14,19 @@ const CACHE_PAGES: usize = 16;
 
 /// The bytes of the two files of a database.
 #[derive(Drop)]
-struct Image {
-    log: Vec<u8>,
-    db: Vec<u8>,
+pub(crate) struct Image {
+    pub(crate) log: Vec<u8>,
+    pub(crate) db: Vec<u8>,
 }
 
-fn on_disk(alloc: Global, bytes: &[u8]) -> Result<Memory, Fail> {
+pub(crate) fn on_disk(alloc: Global, bytes: &[u8]) -> Result<Memory, Fail> {
     let mut disk = Memory::new(alloc);
     disk.write_at(0, bytes).ok().ok_or("written")?;
     disk.sync().ok().ok_or("synced")?;
     Ok(disk)
 }
 
-fn connected<D: Disk + Drop>(
+pub(crate) fn connected<D: Disk + Drop>(
     alloc: Global,
     log: D,
     db: D,

@@ -2,7 +2,7 @@
 
 use crate::making::{faults, journal_of, make_all, opened, replayed, report, scene};
 use crate::runs::THREADS_AND_A_FAULT;
-use kt_core::{OpenError, StepError};
+use kt_core::{OpenError, Start, StepError};
 use kt_stage::{Journal, Left, OpenGate, RunFault, run_threads, run_threads_over};
 use kt_store::{CkptStore, FaultStore, MemStore, StoreError};
 use std::alloc::Global;
@@ -28,7 +28,7 @@ fn run<R: Threads + Wait + Sync>(rt: &R, alloc: Global, at: u64) -> Result<Run, 
     let (cast, lines, _) = THREADS_AND_A_FAULT;
     let (scene, faults) = (scene(alloc, cast)?, faults(alloc, lines)?);
     let store = failing(alloc, at);
-    Ok(run_threads_over(rt, alloc, scene, faults, store, &OpenGate))
+    Ok(run_threads_over(rt, alloc, Start::Open, scene, faults, store, &OpenGate))
 }
 
 /// The world of the journal is that of its steps: it reports what their replay does.

@@ -3,7 +3,7 @@
 use crate::making::{
     Cast, Line, SHARD_1, WORKER_1, faults, journal_of, make_all, opened, replayed, report, scene,
 };
-use kt_core::{FaultKind, Faults, OpenError, Scene, Step};
+use kt_core::{FaultKind, Faults, OpenError, Scene, Start, Step};
 use kt_stage::{Left, OpenGate, RunFault, run_threads, run_threads_over, unfinished};
 use kt_store::{CkptStore, MemStore};
 use std::alloc::Global;
@@ -148,7 +148,7 @@ fn the_store_is_given_back(rt: HostRuntime) -> Result<(), Fail> {
     let mut world = opened(alloc, scene(alloc, cast)?)?;
     make_all(alloc, &mut world, &[Step::Check { node: WORKER_1 }])?;
     let (scene, faults) = (scene(alloc, cast)?, Faults::new(alloc));
-    let run = run_threads_over(&rt, alloc, scene, faults, world.into_store(), &OpenGate);
+    let run = run_threads_over(&rt, alloc, Start::Open, scene, faults, world.into_store(), &OpenGate);
     let (fault, left) = run.err().ok_or("a fault")?;
     assert!(rt; fault == RunFault::Open(OpenError::NotFresh));
     assert!(rt; matches!(left, Left::Store(_)));

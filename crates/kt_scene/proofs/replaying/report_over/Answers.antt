@@ -6,4 +6,4 @@ pub returns-in-Err-clause-fault : goal.returns-in-Err-clause-fault
 returns-in-Err-clause-fault g c = before_report c.in-Err.ensures.fault
 
 pub returns-in-Err-clause-unwritten : goal.returns-in-Err-clause-unwritten
-returns-in-Err-clause-unwritten g c = not_the_writers _ _ _ _ _ c.in-Err.ensures.fault
+returns-in-Err-clause-unwritten g c = not_the_writers _ _ _ _ _ _ c.in-Err.ensures.fault
