@@ -1,14 +1,15 @@
 -- What a parse by the program's own command line can give.
 use Rattle.std.proofs.Common.{◌≡◌, Bool, true, false, cond, List, [], ◌∷◌, Option, Some, None, option_map, codes, ap, refl, subst, sym, inl, inr, ◌∙◌}
 use Rattle.std.specs.Prelude.{◌⊎◌, ◌&&◌, not, if◌then◌else◌, is_some, option_and_then, unwrap_or}
+use Rattle.std.specs.Prelude.{Result, Ok, Err, IsErrAnd}
 use Rattle.std.specs.Borrow.{Bor}
 use Rattle.clap.specs.Words.{App, HasMatchesOf, Kinds, Row, Shape, Text, built, fault_of, first_of, first_value, found_of, is_simple, rows_of}
 use Rattle.clap.specs.Words.{subcommand_of, subcommand_name_of, subcommand_rows_of}
-use Rattle.clap.specs.Kinds.{HasKind, IsAmong, or_else}
+use Rattle.clap.specs.Kinds.{FailsBy, HasKind, IsAmong, or_else}
 use Rattle.clap.specs.Values.{kind_of}
 use Rattle.clap.specs.declared.error.Error.{Error}
 use Rattle.clap.specs.declared.error.kind.ErrorKind.{ErrorKind}
-use Rattle.clap.specs.declared.error.kind.ErrorKind.TheVariants.{MissingRequiredArgument}
+use Rattle.clap.specs.declared.error.kind.ErrorKind.TheVariants.{MissingRequiredArgument, OutOfMemory}
 use Rattle.clap.specs.Walk.{Held, Names, finished, nothing_held, settled, walk, walk_from}
 use Rattle.clap.specs.Simple.{entered, names_of, rows_at}
 use Rattle.clap.specs.Faults.{check_fault, defaults_fault, entered_fault, level_fault, settle_fault, walk_fault}
@@ -111,6 +112,21 @@ still_fails a words e same (inl memory) = inl memory
 still_fails a words e same (inr among) =
     inr (kept_kind _ _ (subcommand_of command_line_app words)
     (subst (λ (x : App). IsAmong (kind_of e) (fault_of x words)) same among))
+
+-- an error that is passed on has the kind that it had
+pub passed_on : {T : Type 0} (kinds : Kinds) (e : Error) (r : Result T Error) → HasKind kinds e → IsErrAnd r (λ x. x ≡ e)
+    → FailsBy kinds r
+passed_on kinds e (Ok x) has is = absurd is
+passed_on kinds e (Err x) has is = subst (HasKind kinds) (sym is) has
+
+-- the error for a file that was forgotten has the kind of the words' fault
+pub is_forgotten : (kinds : Kinds) (e : Error) (is_resumed has_file : Bool)
+    → kinds ≡ (if is_resumed && not has_file then MissingRequiredArgument ∷ [] else []) → is_resumed ≡ true → has_file ≡ false
+    → (kind_of e ≡ MissingRequiredArgument) ⊎ (kind_of e ≡ OutOfMemory) → HasKind kinds e
+is_forgotten kinds e true false is resumed none (inl missing) = inr (subst (IsAmong (kind_of e)) (sym is) (inl missing))
+is_forgotten kinds e true false is resumed none (inr memory) = inl memory
+is_forgotten kinds e false has_file is resumed none told = cc
+is_forgotten kinds e true true is resumed none told = cc
 
 some_stays : (o : Option (Bor Text)) → is_some (option_map (λ (s : Bor Text). s.now) o) ≡ is_some o
 some_stays None = refl
