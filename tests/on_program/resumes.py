@@ -41,10 +41,10 @@ def resumed(file, given, words=("resume",)):
     return start([*words, "--store", file], given, b"")
 
 
-def left(folder, name, *parts):
+def left(folder, name, *parts, head=SCENE):
     """A file as a program leaves it that makes these steps."""
     file = f"{folder}/{name}.db"
-    said, errors, status = replayed(file, steps(*parts))
+    said, errors, status = replayed(file, steps(*parts, head=head))
     assert (errors, status) == (b"", 0), errors
     return file
 
