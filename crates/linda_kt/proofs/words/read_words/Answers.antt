@@ -16,9 +16,9 @@ unwrap-command-requires c =
 pub returns-clause-command : goal.returns-clause-command
 returns-clause-command c =
     let is : command_of c.unwrap.result.0.now
-        (has_flag (codes "resume") (rows_of (found_of c.unwrap.result.1.now)))
-        (has_flag (codes "journal") (rows_of (found_of c.unwrap.result.1.now)))
-        ≡ Some c.unwrap-command.result =
+    (has_flag (codes "resume") (rows_of (found_of c.unwrap.result.1.now)))
+    (has_flag (codes "journal") (rows_of (found_of c.unwrap.result.1.now)))
+    ≡ Some c.unwrap-command.result =
     ap (λ (b : Bool). command_of c.unwrap.result.0.now b (has_flag (codes "journal") (rows_of (found_of c.unwrap.result.1.now))))
     (sym c.has_flag-is_resumed.ensures)
     ∙ ap (λ (b : Bool). command_of c.unwrap.result.0.now c.has_flag-is_resumed.result b) (sym c.has_flag.ensures)
