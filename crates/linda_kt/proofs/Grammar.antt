@@ -209,7 +209,8 @@ asked_is a words m o p command store same has name rows some other is file =
     let found : List Row = rows_of (found_of p.1.now) in
     let of_file : first_of (codes "store") found ≡ option_map (λ (s : Bor Text). s.now) store =
     sym (file ∙ first_value-rows (found_of p.1.now) (codes "store")) in
-    let made : Option Asked = option_map (λ (c : Command). Makes c (first_of (codes "store") found)) (command_of p.0.now (has_flag (codes "resume") found) (has_flag (codes "journal") found)) in
+    let named : Option Command = command_of p.0.now (has_flag (codes "resume") found) (has_flag (codes "journal") found) in
+    let made : Option Asked = option_map (λ (c : Command). Makes c (first_of (codes "store") found)) named in
     ap (option_and_then request_of) (met_is a words m o p same has name rows some)
     ∙ ap (λ (b : Bool). if b then Some (Carries (required_text (first_of (codes "store") found))) else made) other
     ∙ ap (option_map (λ (c : Command). Makes c (first_of (codes "store") found))) is
@@ -232,7 +233,8 @@ carried_is a words m o p store none text same has name rows some this file is em
     let found : List Row = rows_of (found_of p.1.now) in
     let of_file : first_of (codes "store") found ≡ option_map (λ (s : Bor Text). s.now) store =
     sym (file ∙ first_value-rows (found_of p.1.now) (codes "store")) in
-    let made : Option Asked = option_map (λ (c : Command). Makes c (first_of (codes "store") found)) (command_of p.0.now (has_flag (codes "resume") found) (has_flag (codes "journal") found)) in
+    let named : Option Command = command_of p.0.now (has_flag (codes "resume") found) (has_flag (codes "journal") found) in
+    let made : Option Asked = option_map (λ (c : Command). Makes c (first_of (codes "store") found)) named in
     ap (option_and_then request_of) (met_is a words m o p same has name rows some)
     ∙ ap (λ (b : Bool). if b then Some (Carries (required_text (first_of (codes "store") found))) else made) this
     ∙ ap (λ (f : Option Text). Some (Carries (required_text f))) of_file
