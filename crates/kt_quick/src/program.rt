@@ -2,7 +2,7 @@
 ghost use Rattle.std.specs.Prelude.{◌≡◌, ◌⊎◌, IfOk, IsErr};
 ghost use Rattle.std.specs.Vec.Iter.{into_iter_items};
 ghost use Rattle.kt_command.specs.Command.{texts, words_behind};
-ghost use Rattle.kt_quick.specs.Words.{IsQuickStatus, command_asked};
+ghost use Rattle.kt_quick.specs.Words.{IsQuickStatus, command_asked, command_of_one};
 
 use kt_command::{COMMAND_LINE, Command, DONE, MEMORY, run_in_memory, texts_of, words_behind};
 use kt_run::Output;
@@ -81,12 +81,22 @@ fn command_asked(words: &[&str]) -> Option<Command>
     ensures { result ≡ command_asked (texts words.now) }
 {
     match words {
-        // Nothing can be gone on from in memory.
-        [name] if *name != "resume" => Command::of_name(name, false, false),
+        [name] => command_of_one(name),
         [name, flag] if *name == "run" && *flag == "--journal" => {
             Some(Command::Run(Start::Open, Output::Journal))
         }
         _ => None,
+    }
+}
+
+/// The command that one word names. In memory there is nothing to go on from.
+fn command_of_one(name: &str) -> Option<Command>
+    ensures { result ≡ command_of_one name.now }
+{
+    if name == "resume" {
+        None
+    } else {
+        Command::of_name(name, false, false)
     }
 }
 
