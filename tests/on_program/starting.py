@@ -23,6 +23,12 @@ def scenario(name):
         return file.read()
 
 
+def in_memory():
+    """A folder in memory, where there is one: what is stopped in a test is a program and no machine, so nothing has to
+    wait for a disk. Else None."""
+    return "/dev/shm" if os.access("/dev/shm", os.W_OK) else None
+
+
 def report(*lines):
     return "".join(f"{line}\n" for line in lines).encode()
 

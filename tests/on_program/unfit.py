@@ -3,6 +3,7 @@ as it is. Some changes leave a store that fits."""
 
 import sqlite3
 import tempfile
+from contextlib import closing
 
 from on_program.resumes import AGREED, ASKED, PUT, SCENE, UNFIT, left, resumed, steps, untouched
 from on_program.starting import report, tell
@@ -25,15 +26,14 @@ BOTH = report(
 
 def stored(file, node):
     """The node's tentative checkpoint, which counts as its permanent one: its verdict is yes."""
-    with sqlite3.connect(file) as opened:
+    with closing(sqlite3.connect(file)) as opened:
         return bytearray(opened.execute("SELECT tentative FROM kt_node WHERE id = ?", (node,)).fetchone()[0])
 
 
 def changed(file, *statements):
-    with sqlite3.connect(file) as opened:
+    with closing(sqlite3.connect(file)) as opened, opened:
         for text, given in statements:
             opened.execute(text, given)
-    opened.close()
 
 
 def put(file, node, ckpt):
