@@ -1,4 +1,5 @@
 -- Neighbours stand in node order.
+-- Cited by `joining::neighbours`.
 use Rattle.std.proofs.Common.{◌≡◌, ℕ, zero, suc, ◌+◌, ◌<◌, [], ◌∷◌, ◌++◌, map, All, sym, ap, subst, ◌∙◌, arith}
 use Rattle.std.proofs.lemmas.Bool.{lt-ltb}
 use Rattle.std.proofs.lemmas.List.{map-append}
@@ -7,9 +8,9 @@ use Rattle.std.proofs.lemmas.List.Quantifiers.{all_pairs_push}
 use Rattle.kt_tuple.specs.declared.node.NodeId.{NodeId}
 use Rattle.kt_tuple.specs.declared.node.NodeId.TheVariants as ids
 use Rattle.kt_vote.specs.Order.{IsBefore, IsInOrder}
-use Rattle.kt_node.specs.Labels.{numbers}
-use Rattle.kt_node.specs.Node.{across}
-use Rattle.kt_node.proofs.Numbers.{one_more, mapped_none}
+use Rattle.kt_state.specs.Labels.{numbers}
+use Rattle.kt_state.specs.Node.{across}
+use Rattle.kt_state.proofs.Numbers.{one_more, mapped_none}
 
 before : (id : NodeId) (m n : ℕ) → m < n → IsBefore (across id m) (across id n)
 before (ids.Worker k) m n lt = lt-ltb m n lt

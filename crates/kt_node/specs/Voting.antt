@@ -1,11 +1,13 @@
 -- Votes: what a node has to vote by what it knows, and to whom.
+-- Cited by deciding.rt, joining.rt, specs/Arrivals, specs/Deciding, specs/Joining, specs/auxiliary/Between,
+--   voting.rt; kt_model, kt_refinement.
 use Rattle.std.specs.Prelude.{ℕ, Bool, true, false, List, [], ◌∷◌, Option, None, Some}
 use Rattle.kt_tuple.specs.declared.node.NodeId.{NodeId}
 use Rattle.kt_vote.specs.declared.asker.Asker.{Asker}
 use Rattle.kt_vote.specs.declared.vote.Vote.{Vote}
 use Rattle.kt_vote.specs.Poll.{Poll, outcome_of}
-use Rattle.kt_node.specs.declared.message.Message.{Message}
-use Rattle.kt_node.specs.declared.message.Message.TheVariants as messages
+use Rattle.kt_state.specs.declared.message.Message.{Message}
+use Rattle.kt_state.specs.declared.message.Message.TheVariants as messages
 
 -- the vote that answers an ask: it repeats the incarnation in which the asker asked
 abbrev pub vote_for : ℕ → Asker → Bool → NodeId × Vote

@@ -1,17 +1,16 @@
 //! What a node asks of others.
+//! Cited by failing.rt, joining.rt.
 
 ghost use Rattle.std.specs.Prelude.{◌≡◌, IfOk};
 ghost use Rattle.kt_node.specs.Joining.{check_ask, check_asks, roll_ask, roll_asks};
-ghost use Rattle.kt_node.specs.Node.{node_number};
-ghost use Rattle.kt_node.specs.inner.Codes.{live_view, sent_view};
+ghost use Rattle.kt_state.specs.Node.{node_number};
+ghost use Rattle.kt_state.specs.Codes.{live_view};
+ghost use Rattle.kt_node.specs.auxiliary.Codes.{sent_view};
 
-use crate::labels::label_at;
-use crate::live::Live;
-use crate::message::{Ask, Message};
 use crate::plan::Outbox;
-use crate::stored::sent_in;
-use kt_ckpt::Marks;
+use kt_ckpt::CkptHeader;
 use kt_link::Label;
+use kt_state::{Ask, Live, Message, label_at, sent_in};
 use kt_tuple::NodeId;
 use std::alloc::{AllocError, Global};
 
@@ -47,8 +46,8 @@ pub(crate) fn check_asks(
 /// Where the last labels stand that were sent before the permanent checkpoint.
 #[derive(Clone, Copy, Debug)]
 pub(crate) enum Sent<'a> {
-    /// In the marks of the checkpoint, if there is one.
-    Marks(Option<&'a Marks>),
+    /// In the header of the checkpoint, if there is one.
+    CkptHeader(Option<&'a CkptHeader>),
     /// In the table of the node that was loaded from it.
     Table(&'a [Label]),
 }
@@ -59,7 +58,7 @@ impl Sent<'_> {
         ensures { result ≡ sent_view self.entry (node_number node) }
     {
         match self {
-            Sent::Marks(permanent) => sent_in(permanent, node),
+            Sent::CkptHeader(permanent) => sent_in(permanent, node),
             Sent::Table(table) => label_at(table, node),
         }
     }

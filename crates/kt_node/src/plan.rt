@@ -1,13 +1,14 @@
 //! What a step does, found out before anything is changed.
+//! Cited by app_messages.rt, arrivals.rt, asking.rt, deciding.rt, failing.rt, hearing.rt, joining.rt, learning.rt,
+//!   steps.rt, talking.rt, voting.rt; kt_core.
 
 ghost use Rattle.std.specs.Prelude.{◌≡◌, [], ◌∷◌, ◌++◌, IfOk, None, OnOk, Some};
 ghost use Rattle.kt_node.specs.Plan.{empty_plan};
-ghost use Rattle.kt_node.specs.declared.change.Change.TheVariants as changes;
+ghost use Rattle.kt_state.specs.declared.change.Change.TheVariants as changes;
 
-use crate::change::{Change, Turn};
-use crate::message::Message;
 use kt_ckpt::Ckpt;
 use kt_history::Note;
+use kt_state::{Change, Message, Update};
 use kt_tuple::NodeId;
 use std::alloc::{AllocError, Global};
 use std::marker::Model;
@@ -40,7 +41,7 @@ pub struct Outbox {
 impl Model for Outbox {
     ghost use Rattle.std.specs.Prelude.{List};
     ghost use Rattle.kt_tuple.specs.declared.node.NodeId.{NodeId as Name};
-    ghost use Rattle.kt_node.specs.declared.message.Message.{Message as Sent};
+    ghost use Rattle.kt_state.specs.declared.message.Message.{Message as Sent};
 
     ghost Value = { List (Name × Sent) };
 
@@ -115,18 +116,18 @@ impl Plan {
         }
     }
 
-    /// The node goes on with this turn and sends these; this is noted.
+    /// The node goes on with this update and sends these; this is noted.
     pub(crate) fn of(
         alloc: Global,
-        turn: Turn,
+        update: Update,
         send: Outbox,
         note: Option<Note>,
     ) -> Result<Plan, AllocError>
         ensures { IfOk result (λ p. p ≡
-            record { change = changes.Turn turn; send = send; note = note; write = None }) }
+            record { change = changes.Update update; send = send; note = note; write = None }) }
     {
         Ok(Plan {
-            change: Change::turning(alloc, turn)?,
+            change: Change::turning(alloc, update)?,
             send,
             note,
             write: None,

@@ -1,10 +1,11 @@
 //! Votes: what a node has to vote by what it knows, and to whom.
+//! Cited by arrivals.rt, deciding.rt, joining.rt.
 
 ghost use Rattle.std.specs.Prelude.{◌≡◌, ◌++◌, IfOk, OnOk};
 ghost use Rattle.kt_node.specs.Voting.{casting, poll_after, vote_for, votes};
 
-use crate::message::Message;
 use crate::plan::Outbox;
+use kt_state::Message;
 use kt_tuple::NodeId;
 use kt_vote::{Asker, Ballot, Vote};
 use std::alloc::{AllocError, Global};

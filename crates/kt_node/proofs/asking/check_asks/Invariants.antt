@@ -1,6 +1,6 @@
 use Rattle.std.proofs.Common.{◌≡◌, take, map}
 use Rattle.kt_node.specs.Joining.{check_ask}
-use Rattle.kt_node.specs.inner.Codes.{live_view}
+use Rattle.kt_state.specs.Codes.{live_view}
 use Rattle.kt_node.proofs.asking.check_asks.Given as goal
 
 abbrev pub invariant-loop-node : goal.invariant-loop-node

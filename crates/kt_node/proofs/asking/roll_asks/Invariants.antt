@@ -1,6 +1,6 @@
 use Rattle.std.proofs.Common.{◌≡◌, take, map}
 use Rattle.kt_node.specs.Joining.{roll_ask}
-use Rattle.kt_node.specs.inner.Codes.{sent_view}
+use Rattle.kt_node.specs.auxiliary.Codes.{sent_view}
 use Rattle.kt_node.proofs.asking.roll_asks.Given as goal
 
 abbrev pub invariant-loop-node : goal.invariant-loop-node
