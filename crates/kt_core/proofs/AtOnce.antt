@@ -5,7 +5,7 @@ use Rattle.std.proofs.Common.{◌≡◌, ℕ, ◌≤◌, length, Option, None, S
 use Rattle.std.specs.Prelude.{IfOk, IfSome, IsOk, OnErr, option_to_list}
 use Rattle.std.specs.List.{AllByRecursion}
 use Rattle.kt_node.specs.declared.short_plan.ShortPlan.{ShortPlan}
-use Rattle.kt_node.specs.declared.plan.Plan.{Plan}
+use Rattle.kt_state.specs.declared.plan.Plan.{Plan}
 use Rattle.kt_store.specs.Content.{Content, empty_content}
 use Rattle.kt_scenario.specs.declared.step.Step.{Step}
 use Rattle.kt_model.specs.Effect.{applied, applied_if, step_result}

@@ -7,7 +7,7 @@ use Rattle.kt_state.specs.declared.message.Message.{Message}
 use Rattle.kt_state.specs.declared.message.Message.TheVariants as messages
 use Rattle.kt_state.specs.declared.message.AppMessage.{AppMessage}
 use Rattle.kt_node.specs.AppMessages.{hear_app}
-use Rattle.kt_node.specs.declared.plan.Plan.{Plan}
+use Rattle.kt_state.specs.declared.plan.Plan.{Plan}
 use Rattle.kt_state.specs.declared.refusal.Refusal.{Refusal}
 use Rattle.kt_state.specs.declared.refusal.Refusal.TheVariants as reasons
 use Rattle.kt_node.specs.View.{View}

@@ -7,7 +7,7 @@ use Rattle.kt_store.specs.declared.error.StoreError.{StoreError}
 use Rattle.kt_store.specs.declared.error.StoreError.TheVariants as stores
 use Rattle.kt_store.specs.Content.{Content}
 use Rattle.kt_store.specs.Proper.{IsFull}
-use Rattle.kt_node.specs.declared.plan.Plan.{Plan}
+use Rattle.kt_state.specs.declared.plan.Plan.{Plan}
 use Rattle.kt_scenario.specs.declared.step.Step.{Step}
 use Rattle.kt_model.specs.declared.error.StepError.{StepError}
 use Rattle.kt_model.specs.declared.error.StepError.TheVariants as refusals
@@ -17,7 +17,7 @@ use Rattle.kt_tuple.specs.declared.node.NodeId.{NodeId}
 use Rattle.kt_model.specs.StepPlan.{IsUndamaged, owner_plan, has_room, is_planned, unlimited_plan, of_owner, of_scene, step_plan, step_plan_by, within_limit}
 use Rattle.kt_scenario.specs.Scene.{is_in_scene}
 use Rattle.kt_state.specs.declared.refusal.Refusal.TheVariants as reasons
-use Rattle.kt_node.specs.Plan.{Planned}
+use Rattle.kt_state.specs.Plan.{Planned}
 use Rattle.kt_model.specs.Effect.{applied, applied_if, step_result}
 use Rattle.kt_model.specs.Writing.{content_after}
 use Rattle.kt_model.specs.auxiliary.Backed.{IsAllowed, IsBacked}

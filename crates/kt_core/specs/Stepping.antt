@@ -2,7 +2,7 @@
 -- Cited by Steps, stepping.rt, world.rt, `World::step`, `stepping::make_by_plan`, `stepping::prepare`; kt_scene,
 --   kt_stage.
 use Rattle.std.specs.Prelude.{◌≡◌, ◌≢◌, Bool, Result, Ok, Err, None, IsOk, IsTrue}
-use Rattle.kt_node.specs.declared.plan.Plan.{Plan}
+use Rattle.kt_state.specs.declared.plan.Plan.{Plan}
 use Rattle.kt_scenario.specs.declared.step.Step.{Step}
 use Rattle.kt_model.specs.declared.error.StepError.{StepError}
 use Rattle.kt_model.specs.declared.error.StepError.TheVariants as refusals

@@ -4,7 +4,7 @@
 ghost use Rattle.std.specs.Prelude.{◌≡◌, ◌+◌, ◌<◌, ◌^◌, IfOk, IfErr, IsTrue, is_ok};
 ghost use Rattle.kt_store.specs.Content.{Content, empty_content};
 ghost use Rattle.kt_state.specs.Refusing.{Gives as Plans};
-ghost use Rattle.kt_node.specs.Plan.{Planned};
+ghost use Rattle.kt_state.specs.Plan.{Planned};
 ghost use Rattle.kt_node.specs.Speaking.{CanAct};
 ghost use Rattle.kt_node.specs.Saving.{CanSaveNode};
 ghost use Rattle.kt_node.specs.View.{view_of};

@@ -12,7 +12,7 @@ use Rattle.kt_shard.specs.Shard.{Shard}
 use Rattle.kt_shard.specs.Service.{Service, service}
 use Rattle.kt_state.specs.declared.message.AppMessage.{AppMessage}
 use Rattle.kt_state.specs.declared.live.Phase.TheVariants as phases
-use Rattle.kt_node.specs.declared.plan.Plan.{Plan}
+use Rattle.kt_state.specs.declared.plan.Plan.{Plan}
 use Rattle.kt_state.specs.Node.{Body, IsWorker, IsShard, Live, Alive, node_number, worker_in, shard_in}
 use Rattle.kt_state.specs.Kept.{first_kept}
 use Rattle.kt_node.specs.Steps.{issue, issue_by, issue_unless_kept, issue_found, repeat, repeat_by}

@@ -15,7 +15,7 @@ use Rattle.kt_store.specs.declared.rows.Verdict.{Verdict}
 use Rattle.kt_store.specs.declared.rows.Verdict.TheVariants as verdicts
 use Rattle.kt_store.specs.Content.{Content, row_of, verdict_on}
 use Rattle.kt_state.specs.declared.message.Message.{Message}
-use Rattle.kt_node.specs.declared.plan.Plan.{Plan}
+use Rattle.kt_state.specs.declared.plan.Plan.{Plan}
 use Rattle.kt_state.specs.Node.{Node, Down, Alive}
 use Rattle.kt_state.specs.Updating.{changed}
 use Rattle.kt_scenario.specs.declared.step.Step.{Step}

@@ -13,7 +13,7 @@ use Rattle.kt_state.specs.declared.message.Message.{Message}
 use Rattle.kt_state.specs.declared.message.Message.TheVariants as messages
 use Rattle.kt_state.specs.declared.live.Phase.{Phase}
 use Rattle.kt_state.specs.declared.live.Phase.TheVariants as phases
-use Rattle.kt_node.specs.declared.plan.Plan.{Plan}
+use Rattle.kt_state.specs.declared.plan.Plan.{Plan}
 use Rattle.kt_node.specs.declared.reaction.Reaction.{Reaction}
 use Rattle.kt_node.specs.declared.reaction.Reaction.TheVariants as reactions
 use Rattle.kt_state.specs.declared.refusal.Refusal.{Refusal}
@@ -27,7 +27,7 @@ use Rattle.kt_node.specs.Learning.{restored, verdict_to, held_learns, rolling_le
 use Rattle.kt_node.specs.Arrivals.{unless_down, is_in, check_in, check_when_open, check_reaction, check_plan}
 use Rattle.kt_node.specs.Arrivals.{check_fitting, hear_check, rollback_in, rollback_when_open, rollback_reaction}
 use Rattle.kt_node.specs.Arrivals.{rollback_plan, hear_rollback, behind_own, vote_plan, vote_in, hear_vote, verdict_by_parent, verdict_in, hear_verdict}
-use Rattle.kt_node.specs.Plan.{empty_plan}
+use Rattle.kt_state.specs.Plan.{empty_plan}
 use Rattle.kt_scenario.specs.declared.step.Step.TheVariants.{Deliver}
 use Rattle.kt_model.specs.declared.store_reads.StoreReads.{StoreReads}
 use Rattle.kt_scenario.specs.Scene.{are_neighbours}

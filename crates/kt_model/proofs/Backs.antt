@@ -25,13 +25,13 @@ use Rattle.kt_state.specs.declared.live.Phase.{Phase}
 use Rattle.kt_state.specs.declared.change.Update.{Update}
 use Rattle.kt_state.specs.declared.change.Change.{Change}
 use Rattle.kt_state.specs.declared.change.Change.TheVariants as changes
-use Rattle.kt_node.specs.declared.plan.Plan.{Plan}
-use Rattle.kt_node.specs.declared.plan.Write.{Write}
+use Rattle.kt_state.specs.declared.plan.Plan.{Plan}
+use Rattle.kt_state.specs.declared.plan.Write.{Write}
 use Rattle.kt_state.specs.Node.{Live, Node, Down, Alive}
 use Rattle.kt_state.specs.Stored.{is_undecided}
 use Rattle.kt_state.specs.Updating.{changed, phase_in}
-use Rattle.kt_node.specs.Voting.{casting, votes}
-use Rattle.kt_node.specs.Joining.{check_asks, roll_asks}
+use Rattle.kt_state.specs.Voting.{casting, votes}
+use Rattle.kt_state.specs.Asking.{check_asks, roll_asks}
 use Rattle.kt_node.specs.Learning.{verdict_to}
 use Rattle.kt_node.specs.Deciding.{settled}
 use Rattle.kt_scenario.specs.declared.step.Step.{Step}

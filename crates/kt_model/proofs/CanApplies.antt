@@ -7,7 +7,7 @@ use Rattle.kt_history.proofs.Shared.{Contains-here}
 use Rattle.kt_state.specs.declared.message.Message.{Message}
 use Rattle.kt_state.specs.declared.message.Message.TheVariants as messages
 use Rattle.kt_state.specs.declared.change.KeptChange.TheVariants as keeps
-use Rattle.kt_node.specs.declared.plan.Plan.{Plan}
+use Rattle.kt_state.specs.declared.plan.Plan.{Plan}
 use Rattle.kt_vote.specs.Poll.{Poll}
 use Rattle.kt_state.specs.declared.message.AppMessage.{AppMessage}
 use Rattle.kt_state.specs.declared.live.Phase.{Phase}

@@ -18,9 +18,9 @@ use Rattle.kt_state.specs.declared.message.Message.{Message}
 use Rattle.kt_state.specs.declared.message.Message.TheVariants as messages
 use Rattle.kt_state.specs.declared.live.Phase.{Phase}
 use Rattle.kt_state.specs.declared.live.Phase.TheVariants as phases
-use Rattle.kt_node.specs.declared.plan.Write.TheVariants as writes
+use Rattle.kt_state.specs.declared.plan.Write.TheVariants as writes
 use Rattle.kt_state.specs.Node.{Live, Down, Alive, poll_in}
-use Rattle.kt_node.specs.Voting.{casting}
+use Rattle.kt_state.specs.Voting.{casting}
 use Rattle.kt_node.specs.Joining.{asker_of, cohort, checkpoint_now, begin_check_plan, join_check_plan}
 use Rattle.kt_node.specs.Learning.{held_learns}
 use Rattle.kt_node.specs.Deciding.{settled}

@@ -20,7 +20,7 @@ use Rattle.kt_state.specs.declared.message.Message.{Message}
 use Rattle.kt_state.specs.declared.message.AppMessage.{AppMessage}
 use Rattle.kt_state.specs.declared.live.Phase.TheVariants as phases
 use Rattle.kt_state.specs.declared.change.Change.{Change}
-use Rattle.kt_node.specs.declared.plan.Write.{Write}
+use Rattle.kt_state.specs.declared.plan.Write.{Write}
 use Rattle.kt_state.specs.declared.refusal.Refusal.{Refusal}
 use Rattle.kt_state.specs.declared.refusal.Refusal.TheVariants as refusals
 use Rattle.kt_state.specs.declared.stored.Stored.{Stored}

@@ -15,7 +15,7 @@ use Rattle.kt_state.specs.declared.live.Phase.{Phase}
 use Rattle.kt_state.specs.declared.live.Phase.TheVariants as phases
 use Rattle.kt_state.specs.Node.{Live, Node, Down, Alive, mode_in, mode_of, poll_in, poll_of}
 use Rattle.kt_node.specs.View.{View}
-use Rattle.kt_node.specs.Plan.{Planned}
+use Rattle.kt_state.specs.Plan.{Planned}
 use Rattle.kt_node.specs.Arrivals.{unless_down, check_fitting, rollback_plan, rollback_reaction, verdict_in, verdict_by_parent, verdict_when_rolling}
 use Rattle.kt_node.specs.Deciding.{check_of, check_in, decide_of, decide_in, decide_by, abandon_of, abandon_in}
 use Rattle.kt_node.specs.Deciding.{abandon_by, learn_of, learn_in, learn_by, settled}

@@ -18,8 +18,8 @@ use Rattle.kt_store.specs.declared.rows.Verdict.TheVariants as verdicts
 use Rattle.kt_store.specs.Changes.{promoted_from}
 use Rattle.kt_store.specs.Content.{Content, row_of, verdict_on}
 use Rattle.kt_state.specs.declared.change.Change.TheVariants as changes
-use Rattle.kt_node.specs.declared.plan.Write.{Write}
-use Rattle.kt_node.specs.declared.plan.Write.TheVariants as writes
+use Rattle.kt_state.specs.declared.plan.Write.{Write}
+use Rattle.kt_state.specs.declared.plan.Write.TheVariants as writes
 use Rattle.kt_state.specs.Node.{Live, Node, Down}
 use Rattle.kt_state.specs.Stored.{acts_in}
 use Rattle.kt_node.specs.Learning.{promote_down_plan, discard_down_plan}

@@ -26,12 +26,13 @@ use Rattle.kt_state.specs.declared.change.KeptChange.TheVariants as keeps
 use Rattle.kt_state.specs.declared.change.Update.{Update}
 use Rattle.kt_state.specs.declared.change.Change.{Change}
 use Rattle.kt_state.specs.declared.change.Change.TheVariants as changes
-use Rattle.kt_node.specs.declared.plan.Plan.{Plan}
-use Rattle.kt_node.specs.declared.plan.Write.{Write}
+use Rattle.kt_state.specs.declared.plan.Plan.{Plan}
+use Rattle.kt_state.specs.declared.plan.Write.{Write}
 use Rattle.kt_state.specs.Node.{Live, Node, Down, Alive, opening_node}
 use Rattle.kt_state.specs.Updating.{changed, phase_in}
-use Rattle.kt_node.specs.Voting.{casting, voted, votes}
-use Rattle.kt_node.specs.Joining.{asker_of, cohort, check_asks, held_plan}
+use Rattle.kt_state.specs.Voting.{casting, voted, votes}
+use Rattle.kt_state.specs.Asking.{check_asks}
+use Rattle.kt_node.specs.Joining.{asker_of, cohort, held_plan}
 use Rattle.kt_node.specs.Learning.{held_learns, verdict_to}
 use Rattle.kt_node.specs.Deciding.{decide_plan}
 use Rattle.kt_scenario.specs.declared.step.Step.{Step}

@@ -8,7 +8,7 @@ use Rattle.kt_tuple.specs.Node.{node_index}
 use Rattle.kt_tuple.proofs.Shared.{node_index-injective}
 use Rattle.kt_shard.specs.Table.{at, put}
 use Rattle.kt_shard.proofs.Shared.{at-put_same, at-put_other}
-use Rattle.kt_node.specs.declared.plan.Plan.{Plan}
+use Rattle.kt_state.specs.declared.plan.Plan.{Plan}
 use Rattle.kt_state.specs.Node.{Node}
 use Rattle.kt_state.specs.Updating.{changed}
 use Rattle.kt_scenario.specs.declared.step.Step.{Step}

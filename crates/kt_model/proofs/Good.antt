@@ -20,8 +20,8 @@ use Rattle.kt_state.specs.declared.change.KeptChange.{KeptChange}
 use Rattle.kt_state.specs.declared.change.KeptChange.TheVariants as keeps
 use Rattle.kt_state.specs.declared.change.Update.{Update}
 use Rattle.kt_state.specs.declared.change.Change.TheVariants as changes
-use Rattle.kt_node.specs.declared.plan.Plan.{Plan}
-use Rattle.kt_node.specs.declared.plan.Write.{Write}
+use Rattle.kt_state.specs.declared.plan.Plan.{Plan}
+use Rattle.kt_state.specs.declared.plan.Write.{Write}
 use Rattle.kt_state.specs.Node.{Live, Node, Down, Alive}
 use Rattle.kt_state.specs.Ready.{CanUpdate, CanChange}
 use Rattle.kt_state.specs.Updating.{changed, changed_body, changed_kept, is_above, phase_in, said_count, updated}

@@ -14,7 +14,7 @@ use Rattle.kt_state.specs.declared.message.AppMessage.{AppMessage}
 use Rattle.kt_state.specs.declared.message.Message.{Message}
 use Rattle.kt_state.specs.declared.change.BodyChange.{BodyChange}
 use Rattle.kt_state.specs.declared.change.KeptChange.{KeptChange}
-use Rattle.kt_node.specs.declared.plan.Plan.{Plan}
+use Rattle.kt_state.specs.declared.plan.Plan.{Plan}
 use Rattle.kt_state.specs.Node.{IsWorker, Live, node_number}
 use Rattle.kt_state.specs.Ready.{CanChangeBody}
 use Rattle.kt_state.specs.Updating.{changed_body}

@@ -21,15 +21,16 @@ use Rattle.kt_state.specs.declared.live.Phase.TheVariants as phases
 use Rattle.kt_state.specs.declared.change.KeptChange.TheVariants as keeps
 use Rattle.kt_state.specs.declared.change.KeptChange.{KeptChange}
 use Rattle.kt_state.specs.declared.change.Change.TheVariants as changes
-use Rattle.kt_node.specs.declared.plan.Write.{Write}
+use Rattle.kt_state.specs.declared.plan.Write.{Write}
 use Rattle.kt_state.specs.declared.stored.Stored.{Stored}
 use Rattle.kt_state.specs.Node.{Role, Live, neighbours}
 use Rattle.kt_state.specs.Labels.{label_at}
 use Rattle.kt_model.specs.Effect.{noted}
 use Rattle.kt_state.specs.Updating.{no_update}
 use Rattle.kt_state.specs.Stored.{acts_in, fits, sent_in}
-use Rattle.kt_node.specs.Voting.{casting, poll_after, voted, votes}
-use Rattle.kt_node.specs.Joining.{asker_of, cohort, check_asks, roll_asks, held_plan, begin_check_plan, join_check_plan, roller, join_rollback_plan}
+use Rattle.kt_state.specs.Voting.{casting, poll_after, voted, votes}
+use Rattle.kt_state.specs.Asking.{check_asks, roll_asks}
+use Rattle.kt_node.specs.Joining.{asker_of, cohort, held_plan, begin_check_plan, join_check_plan, roller, join_rollback_plan}
 use Rattle.kt_node.specs.Loading.{load}
 use Rattle.kt_state.specs.Loading.{header_in}
 use Rattle.kt_node.specs.Learning.{verdict_to, cut_of, held_learns, restoring_plan, release_plan, promote_down_plan, discard_down_plan}

@@ -17,7 +17,7 @@ use Rattle.kt_state.specs.declared.message.Talk.TheVariants as talks
 use Rattle.kt_state.specs.declared.message.AppMessage.{AppMessage}
 use Rattle.kt_state.specs.declared.change.BodyChange.TheVariants as bodies
 use Rattle.kt_state.specs.declared.change.KeptChange.{KeptChange}
-use Rattle.kt_node.specs.declared.plan.Plan.{Plan}
+use Rattle.kt_state.specs.declared.plan.Plan.{Plan}
 use Rattle.kt_state.specs.Node.{Body, IsWorker, IsShard, Live, node_number}
 use Rattle.kt_node.specs.View.{View}
 use Rattle.kt_node.specs.Talking.{note_of, hearing, again_plan, request_plan, talk_plan, heard_plan}

@@ -24,9 +24,9 @@ use Rattle.kt_state.specs.declared.change.KeptChange.{KeptChange}
 use Rattle.kt_state.specs.declared.change.KeptChange.TheVariants as keeps
 use Rattle.kt_state.specs.declared.message.Message.{Message}
 use Rattle.kt_state.specs.declared.message.AppMessage.{AppMessage}
-use Rattle.kt_node.specs.declared.plan.Plan.{Plan}
-use Rattle.kt_node.specs.declared.plan.Write.{Write}
-use Rattle.kt_node.specs.declared.plan.Write.TheVariants as writes
+use Rattle.kt_state.specs.declared.plan.Plan.{Plan}
+use Rattle.kt_state.specs.declared.plan.Write.{Write}
+use Rattle.kt_state.specs.declared.plan.Write.TheVariants as writes
 use Rattle.kt_node.specs.Learning.{held_learns}
 use Rattle.kt_state.specs.Node.{Live}
 use Rattle.kt_scenario.specs.declared.step.Step.{Step}

@@ -4,7 +4,7 @@
 use Rattle.std.proofs.Common.{◌≡◌, length, ◌<◌, List, [], ◌∷◌, Result, Ok, Err, refl, subst, None}
 use Rattle.kt_tuple.specs.declared.node.NodeId.{NodeId}
 use Rattle.kt_history.specs.WellFormed.{HasNoCut}
-use Rattle.kt_node.specs.declared.plan.Plan.{Plan}
+use Rattle.kt_state.specs.declared.plan.Plan.{Plan}
 use Rattle.kt_scenario.specs.declared.step.Step.{Step}
 use Rattle.kt_model.specs.declared.error.StepError.{StepError}
 use Rattle.kt_scenario.specs.Step.{owner}

@@ -20,8 +20,8 @@ use Rattle.kt_store.specs.Content.{Content, next_instance, row_of, verdict_on}
 use Rattle.kt_state.specs.declared.message.Message.{Message}
 use Rattle.kt_state.specs.declared.message.Message.TheVariants as messages
 use Rattle.kt_state.specs.declared.change.Change.TheVariants as changes
-use Rattle.kt_node.specs.declared.plan.Plan.{Plan}
-use Rattle.kt_node.specs.declared.plan.Write.TheVariants as writes
+use Rattle.kt_state.specs.declared.plan.Plan.{Plan}
+use Rattle.kt_state.specs.declared.plan.Write.TheVariants as writes
 use Rattle.kt_node.specs.Learning.{discard_down_plan}
 use Rattle.kt_state.specs.Node.{Node, Down, Alive, opening_node}
 use Rattle.kt_state.specs.Updating.{changed}

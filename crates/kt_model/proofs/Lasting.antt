@@ -23,7 +23,7 @@ use Rattle.kt_store.specs.declared.rows.Verdict.{Verdict}
 use Rattle.kt_store.specs.declared.rows.Verdict.TheVariants as verdicts
 use Rattle.kt_store.specs.Content.{row_of, verdict_of, verdict_on}
 use Rattle.kt_store.specs.Proper.{IsFull, instances, incarnations}
-use Rattle.kt_node.specs.declared.plan.Plan.{Plan}
+use Rattle.kt_state.specs.declared.plan.Plan.{Plan}
 use Rattle.kt_state.specs.Loading.{header_in}
 use Rattle.kt_state.specs.Node.{Node}
 use Rattle.kt_state.specs.Stored.{fits}

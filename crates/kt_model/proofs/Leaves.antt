@@ -24,8 +24,9 @@ use Rattle.kt_state.specs.Labels.{numbers}
 use Rattle.kt_state.specs.Node.{Body, IsWorker, IsShard, Live, across, neighbours, poll_in, poll_of, Down}
 use Rattle.kt_state.specs.Ready.{CanCount}
 use Rattle.kt_state.specs.Updating.{changed_body}
-use Rattle.kt_node.specs.Voting.{casting_to, casting_unless, casting_of, casting, poll_after, votes}
-use Rattle.kt_node.specs.Joining.{is_in_cohort, cohort, check_asks, roll_asks}
+use Rattle.kt_state.specs.Voting.{casting_to, casting_unless, casting_of, casting, poll_after, votes}
+use Rattle.kt_state.specs.Asking.{check_asks, roll_asks}
+use Rattle.kt_node.specs.Joining.{is_in_cohort, cohort}
 use Rattle.kt_node.specs.Learning.{verdict_to}
 use Rattle.kt_scenario.specs.Scene.{SceneModel, is_node}
 use Rattle.kt_model.specs.State.{State, role_of, view}

@@ -22,7 +22,7 @@ use Rattle.kt_state.specs.declared.message.AppMessage.{AppMessage}
 use Rattle.kt_state.specs.declared.message.Message.{Message}
 use Rattle.kt_state.specs.declared.change.KeptChange.{KeptChange}
 use Rattle.kt_state.specs.declared.change.KeptChange.TheVariants as keeps
-use Rattle.kt_node.specs.declared.plan.Plan.{Plan}
+use Rattle.kt_state.specs.declared.plan.Plan.{Plan}
 use Rattle.kt_state.specs.Node.{Body, IsWorker, IsShard, Live}
 use Rattle.kt_node.specs.View.{View}
 use Rattle.kt_node.specs.Talking.{request_plan, talk_plan, heard_plan}

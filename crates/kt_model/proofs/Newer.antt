@@ -20,12 +20,13 @@ use Rattle.kt_state.specs.declared.change.KeptChange.TheVariants as keeps
 use Rattle.kt_state.specs.declared.change.Update.{Update}
 use Rattle.kt_state.specs.declared.change.Change.{Change}
 use Rattle.kt_state.specs.declared.change.Change.TheVariants as changes
-use Rattle.kt_node.specs.declared.plan.Plan.{Plan}
-use Rattle.kt_node.specs.declared.plan.Write.{Write}
+use Rattle.kt_state.specs.declared.plan.Plan.{Plan}
+use Rattle.kt_state.specs.declared.plan.Write.{Write}
 use Rattle.kt_state.specs.Node.{Live, Node, Down, Alive}
 use Rattle.kt_state.specs.Updating.{changed, phase_in}
-use Rattle.kt_node.specs.Voting.{casting, voted, votes}
-use Rattle.kt_node.specs.Joining.{asker_of, cohort, check_asks, held_plan}
+use Rattle.kt_state.specs.Voting.{casting, voted, votes}
+use Rattle.kt_state.specs.Asking.{check_asks}
+use Rattle.kt_node.specs.Joining.{asker_of, cohort, held_plan}
 use Rattle.kt_node.specs.Learning.{held_learns, verdict_to}
 use Rattle.kt_node.specs.Deciding.{decide_plan}
 use Rattle.kt_scenario.specs.declared.step.Step.{Step}
@@ -53,7 +54,7 @@ use Rattle.kt_store.specs.declared.rows.Purpose.TheVariants as purposes
 use Rattle.kt_store.specs.Content.{Content, next_instance, instance_row, row_of}
 use Rattle.kt_store.specs.Changes.{opening as opening_of, decided, storing, taken}
 use Rattle.kt_store.proofs.Shared.{above_all, decided_is_read, others_begun, others_decided}
-use Rattle.kt_node.specs.declared.plan.Write.TheVariants as writes
+use Rattle.kt_state.specs.declared.plan.Write.TheVariants as writes
 use Rattle.kt_state.specs.declared.refusal.Refusal.{Refusal}
 use Rattle.kt_state.specs.declared.stored.Stored.{Stored}
 use Rattle.kt_state.specs.Node.{Body}
@@ -64,7 +65,7 @@ use Rattle.kt_state.specs.State.{body_at}
 use Rattle.kt_state.specs.Stored.{fits, sent_in}
 use Rattle.kt_node.specs.View.{View}
 use Rattle.kt_vote.specs.Poll.{counted}
-use Rattle.kt_node.specs.Joining.{roll_asks}
+use Rattle.kt_state.specs.Asking.{roll_asks}
 use Rattle.kt_state.specs.Node.{neighbours}
 use Rattle.kt_model.specs.Found.{was_found}
 use Rattle.kt_model.specs.StoreReads.{store_reads}

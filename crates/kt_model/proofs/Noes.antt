@@ -12,8 +12,8 @@ use Rattle.kt_store.specs.Verdict.{verdict_from}
 use Rattle.kt_store.specs.Content.{Content, next_instance, instance_row, row_of, verdict_of}
 use Rattle.kt_store.specs.Changes.{storing, opening, taken, decided}
 use Rattle.kt_store.proofs.Shared.{others_decided, decided_is_read}
-use Rattle.kt_node.specs.declared.plan.Write.{Write}
-use Rattle.kt_node.specs.declared.plan.Write.TheVariants as writes
+use Rattle.kt_state.specs.declared.plan.Write.{Write}
+use Rattle.kt_state.specs.declared.plan.Write.TheVariants as writes
 use Rattle.kt_model.specs.Writing.{content_after}
 use Rattle.kt_model.proofs.Boards.{begun-says}
 use Rattle.kt_model.proofs.Sound.{NoesStay}

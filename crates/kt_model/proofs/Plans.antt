@@ -25,15 +25,15 @@ use Rattle.kt_state.specs.declared.live.Phase.{Phase}
 use Rattle.kt_state.specs.declared.live.Phase.TheVariants as phases
 use Rattle.kt_state.specs.declared.change.KeptChange.TheVariants as keeps
 use Rattle.kt_state.specs.declared.change.Change.TheVariants as changes
-use Rattle.kt_node.specs.declared.plan.Plan.{Plan}
+use Rattle.kt_state.specs.declared.plan.Plan.{Plan}
 use Rattle.kt_node.specs.declared.reaction.Reaction.TheVariants as reactions
 use Rattle.kt_state.specs.Labels.{up_to, label_at}
 use Rattle.kt_state.specs.Node.{Live, Down, Alive, IsWorker, IsShard, node_number}
-use Rattle.kt_node.specs.Plan.{empty_plan}
+use Rattle.kt_state.specs.Plan.{empty_plan}
 use Rattle.kt_state.specs.Updating.{no_update}
 use Rattle.kt_state.specs.Stored.{fits, acts_fit, is_undecided}
 use Rattle.kt_node.specs.AppMessages.{keep_plan}
-use Rattle.kt_node.specs.Voting.{casting, poll_after, voted}
+use Rattle.kt_state.specs.Voting.{casting, poll_after, voted}
 use Rattle.kt_node.specs.Talking.{issue_plan, repeat_plan, service_plan, heard_plan}
 use Rattle.kt_node.specs.Joining.{begin_check_plan, join_check_plan, join_rollback_plan}
 use Rattle.kt_node.specs.Loading.{load}

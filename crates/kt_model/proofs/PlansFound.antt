@@ -2,7 +2,7 @@
 -- Cited by AllInstanceRows, Holding, Kept, Lasting, OwnRows, Settling, StepPlans; kt_core, kt_refinement, kt_run,
 --   kt_stage.
 use Rattle.std.proofs.Common.{◌≡◌, ◌<◌, Ok, length}
-use Rattle.kt_node.specs.declared.plan.Plan.{Plan}
+use Rattle.kt_state.specs.declared.plan.Plan.{Plan}
 use Rattle.std.specs.Prelude.{IsTrue}
 use Rattle.kt_scenario.specs.declared.step.Step.{Step}
 use Rattle.kt_scenario.specs.declared.step.Step.TheVariants.{Issue, Repeat, Deliver, Take, Serve, Check, Decide, Abandon, Learn, Fail, Restart}

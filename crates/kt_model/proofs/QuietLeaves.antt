@@ -21,12 +21,12 @@ use Rattle.kt_state.specs.declared.message.Message.TheVariants as messages
 use Rattle.kt_state.specs.declared.live.Phase.{Phase}
 use Rattle.kt_state.specs.declared.live.Phase.TheVariants as phases
 use Rattle.kt_state.specs.declared.change.Change.TheVariants as changes
-use Rattle.kt_node.specs.declared.plan.Write.TheVariants as writes
+use Rattle.kt_state.specs.declared.plan.Write.TheVariants as writes
 use Rattle.kt_state.specs.Node.{Live}
 use Rattle.kt_state.specs.Updating.{no_update}
 use Rattle.kt_state.specs.Stored.{is_undecided, sent_in}
 use Rattle.kt_node.specs.AppMessages.{keep_plan}
-use Rattle.kt_node.specs.Voting.{casting, poll_after, voted, vote_for}
+use Rattle.kt_state.specs.Voting.{casting, poll_after, voted, vote_for}
 use Rattle.kt_node.specs.Joining.{asker_of, join_rollback_plan, roller}
 use Rattle.kt_node.specs.Learning.{release_plan}
 use Rattle.kt_node.specs.Arrivals.{answer_plan, sieved_answer_plan, voting_plan}

@@ -17,8 +17,8 @@ use Rattle.kt_state.specs.declared.message.Message.{Message}
 use Rattle.kt_state.specs.declared.live.Phase.{Phase}
 use Rattle.kt_state.specs.declared.live.Phase.TheVariants as phases
 use Rattle.kt_state.specs.declared.change.Change.TheVariants as changes
-use Rattle.kt_node.specs.declared.plan.Write.{Write}
-use Rattle.kt_node.specs.declared.plan.Write.TheVariants as writes
+use Rattle.kt_state.specs.declared.plan.Write.{Write}
+use Rattle.kt_state.specs.declared.plan.Write.TheVariants as writes
 use Rattle.kt_state.specs.Labels.{label_at}
 use Rattle.kt_state.specs.Node.{Live, Node, Down, Alive, neighbours}
 use Rattle.kt_state.specs.Stored.{acts_in}

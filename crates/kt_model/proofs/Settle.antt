@@ -22,8 +22,8 @@ use Rattle.kt_store.specs.Verdict.{verdict_from}
 use Rattle.kt_store.specs.Content.{Content, next_instance, instance_row, row_of, row_or, verdict_of, verdict_on}
 use Rattle.kt_store.specs.Changes.{opening, decided, promoted_from, storing, taken, with_row}
 use Rattle.kt_store.proofs.Shared.{decided_is_read, others_begun, others_decided}
-use Rattle.kt_node.specs.declared.plan.Write.{Write}
-use Rattle.kt_node.specs.declared.plan.Write.TheVariants as writes
+use Rattle.kt_state.specs.declared.plan.Write.{Write}
+use Rattle.kt_state.specs.declared.plan.Write.TheVariants as writes
 use Rattle.kt_model.specs.auxiliary.Backed.{IsAllowed}
 use Rattle.kt_model.specs.Cut.{permanent_by, permanent_of}
 use Rattle.kt_model.specs.Found.{was_found}

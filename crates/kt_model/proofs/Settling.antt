@@ -13,9 +13,9 @@ use Rattle.kt_store.specs.Changes.{discarded, promoted_from, storing}
 use Rattle.kt_state.specs.declared.message.Message.{Message}
 use Rattle.kt_state.specs.declared.message.Message.TheVariants as messages
 use Rattle.kt_state.specs.declared.change.Change.TheVariants as changes
-use Rattle.kt_node.specs.declared.plan.Plan.{Plan}
-use Rattle.kt_node.specs.declared.plan.Write.{Write}
-use Rattle.kt_node.specs.declared.plan.Write.TheVariants as writes
+use Rattle.kt_state.specs.declared.plan.Plan.{Plan}
+use Rattle.kt_state.specs.declared.plan.Write.{Write}
+use Rattle.kt_state.specs.declared.plan.Write.TheVariants as writes
 use Rattle.kt_state.specs.Node.{Live, Node, Down, Alive, poll_of}
 use Rattle.kt_node.specs.Deciding.{no_plan}
 use Rattle.kt_state.specs.Updating.{changed}

@@ -16,17 +16,18 @@ use Rattle.kt_state.specs.declared.live.Phase.{Phase}
 use Rattle.kt_state.specs.declared.live.Phase.TheVariants as phases
 use Rattle.kt_state.specs.declared.change.KeptChange.{KeptChange}
 use Rattle.kt_state.specs.declared.change.KeptChange.TheVariants as keeps
-use Rattle.kt_node.specs.declared.plan.Plan.{Plan}
+use Rattle.kt_state.specs.declared.plan.Plan.{Plan}
 use Rattle.kt_state.specs.declared.stored.Stored.{Stored}
 use Rattle.kt_state.specs.Node.{Live, Node, neighbours, poll_in}
 use Rattle.kt_state.specs.Stored.{sent_in}
 use Rattle.kt_state.specs.Labels.{label_at}
-use Rattle.kt_node.specs.Voting.{casting, poll_after, voted, votes}
-use Rattle.kt_node.specs.Joining.{asker_of, cohort, check_asks, roll_asks, roller}
+use Rattle.kt_state.specs.Voting.{casting, poll_after, voted, votes}
+use Rattle.kt_state.specs.Asking.{check_asks, roll_asks}
+use Rattle.kt_node.specs.Joining.{asker_of, cohort, roller}
 use Rattle.kt_node.specs.Loading.{load}
 use Rattle.kt_node.specs.Learning.{verdict_to, held_learns, restoring_plan}
 use Rattle.kt_node.specs.Failing.{restarting_plan}
-use Rattle.kt_node.specs.declared.plan.Write.TheVariants as writes
+use Rattle.kt_state.specs.declared.plan.Write.TheVariants as writes
 use Rattle.kt_vote.specs.declared.vote.Vote.{Vote}
 use Rattle.kt_node.specs.Deciding.{decide_plan}
 use Rattle.kt_scenario.specs.declared.step.Step.{Step}

@@ -3,7 +3,7 @@
 -- Cited by kt_core.
 use Rattle.std.proofs.Common.{◌≡◌, Ok}
 use Rattle.std.specs.Prelude.{IfSome}
-use Rattle.kt_node.specs.declared.plan.Plan.{Plan}
+use Rattle.kt_state.specs.declared.plan.Plan.{Plan}
 use Rattle.kt_scenario.specs.declared.step.Step.{Step}
 use Rattle.kt_model.specs.declared.store_reads.StoreReads.{StoreReads}
 use Rattle.kt_scenario.specs.Step.{owner}

@@ -1,7 +1,7 @@
 -- Each plan of a step keeps a sound state sound: one leaf of the tables after the other.
 -- Cited by Holding, Lasting; kt_refinement.
 use Rattle.std.proofs.Common.{true, false, []}
-use Rattle.kt_node.specs.declared.plan.Plan.{Plan}
+use Rattle.kt_state.specs.declared.plan.Plan.{Plan}
 use Rattle.kt_scenario.specs.declared.step.Step.{Step}
 use Rattle.kt_scenario.specs.declared.step.Step.TheVariants.{Issue, Repeat, Deliver, Take, Serve, Check, Decide, Abandon, Learn, Fail, Restart}
 use Rattle.kt_scenario.specs.Step.{owner}

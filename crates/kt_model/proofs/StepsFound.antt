@@ -10,12 +10,12 @@ use Rattle.kt_vote.specs.declared.asker.Asker.{Asker}
 use Rattle.kt_vote.specs.Poll.{Poll, outcome_of}
 use Rattle.kt_state.specs.declared.live.Phase.{Phase}
 use Rattle.kt_state.specs.declared.live.Phase.TheVariants as phases
-use Rattle.kt_node.specs.declared.plan.Plan.{Plan}
+use Rattle.kt_state.specs.declared.plan.Plan.{Plan}
 use Rattle.kt_state.specs.declared.refusal.Refusal.{Refusal}
 use Rattle.kt_state.specs.declared.refusal.Refusal.TheVariants as refusals
 use Rattle.kt_state.specs.Node.{Live, Node, Down, Alive}
 use Rattle.kt_state.specs.Stored.{fits, acts_fit, is_undecided}
-use Rattle.kt_node.specs.Voting.{voted}
+use Rattle.kt_state.specs.Voting.{voted}
 use Rattle.kt_node.specs.Loading.{load}
 use Rattle.kt_state.specs.Loading.{header_in}
 use Rattle.kt_node.specs.Learning.{restored}

@@ -38,7 +38,7 @@ use Rattle.kt_node.specs.Learning.{restored, rolling_learns}
 use Rattle.kt_node.specs.Loading.{load}
 use Rattle.kt_state.specs.Loading.{loaded_by, header_in}
 use Rattle.kt_state.specs.Node.{Body, Live, Node, Down, Alive, node_number, shard_in, worker_in}
-use Rattle.kt_node.specs.Plan.{Planned}
+use Rattle.kt_state.specs.Plan.{Planned}
 use Rattle.kt_state.specs.State.{body_at}
 use Rattle.kt_node.specs.Steps.{by_up, issue, issue_by, issue_found, issue_unless_kept, repeat, repeat_by, repeat_found, serve, serve_by}
 use Rattle.kt_state.specs.Kept.{first_kept}

@@ -18,12 +18,12 @@ use Rattle.kt_state.specs.declared.change.BodyChange.TheVariants as bodies
 use Rattle.kt_state.specs.declared.change.KeptChange.TheVariants as keeps
 use Rattle.kt_state.specs.declared.change.Update.{Update}
 use Rattle.kt_state.specs.declared.change.Change.TheVariants as changes
-use Rattle.kt_node.specs.declared.plan.Write.{Write}
-use Rattle.kt_node.specs.declared.plan.Write.TheVariants as writes
+use Rattle.kt_state.specs.declared.plan.Write.{Write}
+use Rattle.kt_state.specs.declared.plan.Write.TheVariants as writes
 use Rattle.kt_state.specs.Node.{Body, IsWorker, IsShard, Live, Node, Alive}
-use Rattle.kt_node.specs.Plan.{empty_plan}
-use Rattle.kt_node.specs.Voting.{votes}
-use Rattle.kt_node.specs.Joining.{check_asks, roll_asks}
+use Rattle.kt_state.specs.Plan.{empty_plan}
+use Rattle.kt_state.specs.Voting.{votes}
+use Rattle.kt_state.specs.Asking.{check_asks, roll_asks}
 use Rattle.kt_node.specs.Learning.{verdict_to}
 use Rattle.kt_state.specs.Updating.{changed, changed_body, changed_kept, is_above, phase_in, updated}
 use Rattle.kt_model.specs.State.{State, node}

@@ -13,8 +13,8 @@ use Rattle.kt_model.specs.auxiliary.Backed.{AreRising}
 use Rattle.kt_store.specs.Changes.{storing, taken, decided, promoted_from}
 use Rattle.kt_store.specs.Others.{OtherNodesStay}
 use Rattle.kt_store.proofs.Shared.{others_stay_of, own_row, stored_is_read, nodes_stay}
-use Rattle.kt_node.specs.declared.plan.Write.{Write}
-use Rattle.kt_node.specs.declared.plan.Write.TheVariants as writes
+use Rattle.kt_state.specs.declared.plan.Write.{Write}
+use Rattle.kt_state.specs.declared.plan.Write.TheVariants as writes
 use Rattle.kt_model.specs.Writing.{content_after}
 use Rattle.kt_model.specs.auxiliary.Backed.{IsAllowed}
 use Rattle.kt_model.proofs.Boards.{Says, begun-says, decided-says, begun-board, decided-board, begun-next, decided-next}

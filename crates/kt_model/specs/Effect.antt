@@ -12,7 +12,7 @@ use Rattle.kt_history.specs.declared.note.Note.{Note}
 use Rattle.kt_link.specs.Network.{entry_at, with_entry}
 use Rattle.kt_shard.specs.Table.{at, put}
 use Rattle.kt_state.specs.declared.message.Message.{Message}
-use Rattle.kt_node.specs.declared.plan.Plan.{Plan}
+use Rattle.kt_state.specs.declared.plan.Plan.{Plan}
 use Rattle.kt_state.specs.Updating.{changed}
 use Rattle.kt_model.specs.Writing.{content_after}
 use Rattle.kt_scenario.specs.declared.step.Step.{Step}

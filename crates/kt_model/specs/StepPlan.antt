@@ -8,11 +8,11 @@ use Rattle.kt_tuple.specs.declared.node.NodeId.{NodeId}
 use Rattle.kt_store.specs.declared.error.StoreError.{StoreError}
 use Rattle.kt_state.specs.declared.message.Message.{Message}
 use Rattle.kt_state.specs.declared.message.Message.TheVariants as messages
-use Rattle.kt_node.specs.declared.plan.Plan.{Plan}
+use Rattle.kt_state.specs.declared.plan.Plan.{Plan}
 use Rattle.kt_state.specs.declared.refusal.Refusal.TheVariants as reasons
 use Rattle.kt_state.specs.Node.{node_number}
 use Rattle.kt_node.specs.View.{View}
-use Rattle.kt_node.specs.Plan.{Planned}
+use Rattle.kt_state.specs.Plan.{Planned}
 use Rattle.kt_node.specs.AppMessages.{hear_app}
 use Rattle.kt_node.specs.Steps.{issue, repeat, take, serve}
 use Rattle.kt_node.specs.Arrivals.{hear_check, hear_rollback, hear_vote, hear_verdict}

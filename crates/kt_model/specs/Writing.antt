@@ -5,8 +5,8 @@ use Rattle.std.specs.Prelude.{Option, None, Some}
 use Rattle.kt_tuple.specs.declared.node.NodeId.{NodeId}
 use Rattle.kt_store.specs.Content.{Content}
 use Rattle.kt_store.specs.Changes.{check_begun, tentative_put, promoted, discarded, restart_begun, bumped, decided}
-use Rattle.kt_node.specs.declared.plan.Write.{Write}
-use Rattle.kt_node.specs.declared.plan.Write.TheVariants as writes
+use Rattle.kt_state.specs.declared.plan.Write.{Write}
+use Rattle.kt_state.specs.declared.plan.Write.TheVariants as writes
 
 -- a write of p
 abbrev pub written : NodeId → Write → Content → Content

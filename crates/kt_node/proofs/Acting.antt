@@ -24,11 +24,11 @@ use Rattle.kt_state.specs.declared.live.Phase.TheVariants as phases
 use Rattle.kt_state.specs.declared.change.BodyChange.TheVariants as bodies
 use Rattle.kt_state.specs.declared.change.KeptChange.{KeptChange}
 use Rattle.kt_state.specs.declared.change.KeptChange.TheVariants as keeps
-use Rattle.kt_node.specs.declared.plan.Plan.{Plan}
+use Rattle.kt_state.specs.declared.plan.Plan.{Plan}
 use Rattle.kt_state.specs.Labels.{table_size}
 use Rattle.kt_state.specs.Node.{Body, IsWorker, IsShard, Live, Node, Down, Alive, node_number, worker_in, shard_in}
 use Rattle.kt_node.specs.View.{View}
-use Rattle.kt_node.specs.Plan.{Planned}
+use Rattle.kt_state.specs.Plan.{Planned}
 use Rattle.kt_node.specs.Speaking.{CanAct, CanSpeak, HasPlace, KeptHavePlaces}
 use Rattle.kt_state.specs.Ready.{CanCount, CanChange, CanChangeBody}
 use Rattle.kt_node.specs.Talking.{home, issue_plan, repeat_plan, service_plan, request_plan, reply_plan, talk_plan, heard_plan}

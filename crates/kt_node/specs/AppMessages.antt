@@ -7,10 +7,10 @@ use Rattle.kt_state.specs.declared.live.Phase.{Phase}
 use Rattle.kt_state.specs.declared.live.Phase.TheVariants as phases
 use Rattle.kt_state.specs.declared.change.KeptChange.TheVariants as keeps
 use Rattle.kt_state.specs.declared.change.Change.TheVariants as changes
-use Rattle.kt_node.specs.declared.plan.Plan.{Plan}
+use Rattle.kt_state.specs.declared.plan.Plan.{Plan}
 use Rattle.kt_state.specs.Node.{Live, Node, Down, Alive}
 use Rattle.kt_node.specs.View.{View}
-use Rattle.kt_node.specs.Plan.{Planned, empty_plan}
+use Rattle.kt_state.specs.Plan.{Planned, empty_plan}
 use Rattle.kt_state.specs.Updating.{no_update}
 use Rattle.kt_node.specs.Talking.{heard_plan}
 use Rattle.kt_state.specs.Kept.{first_kept}

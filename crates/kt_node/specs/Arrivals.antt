@@ -13,7 +13,7 @@ use Rattle.kt_state.specs.declared.live.Phase.{Phase}
 use Rattle.kt_state.specs.declared.live.Phase.TheVariants as phases
 use Rattle.kt_state.specs.declared.change.KeptChange.TheVariants as keeps
 use Rattle.kt_state.specs.declared.change.Change.TheVariants as changes
-use Rattle.kt_node.specs.declared.plan.Plan.{Plan}
+use Rattle.kt_state.specs.declared.plan.Plan.{Plan}
 use Rattle.kt_node.specs.declared.reaction.Reaction.{Reaction}
 use Rattle.kt_node.specs.declared.reaction.Reaction.TheVariants as reactions
 use Rattle.kt_state.specs.declared.refusal.Refusal.TheVariants as refusals
@@ -21,9 +21,9 @@ use Rattle.kt_state.specs.Labels.{up_to, label_at, first_at, reaches}
 use Rattle.kt_state.specs.Node.{Live, Node, Down, Alive, node_number}
 use Rattle.kt_node.specs.View.{View}
 use Rattle.kt_state.specs.Stored.{fits, acts_fit, is_undecided, sent_in}
-use Rattle.kt_node.specs.Plan.{Planned, empty_plan}
+use Rattle.kt_state.specs.Plan.{Planned, empty_plan}
 use Rattle.kt_state.specs.Updating.{no_update, updating_to}
-use Rattle.kt_node.specs.Voting.{casting, poll_after, vote_for, votes}
+use Rattle.kt_state.specs.Voting.{casting, poll_after, vote_for, votes}
 use Rattle.kt_node.specs.Joining.{asker_of, join_check_plan, join_rollback_plan}
 use Rattle.kt_state.specs.declared.stored.Stored.{Stored}
 use Rattle.kt_node.specs.Learning.{held_learns, rolling_learns, verdict_to}

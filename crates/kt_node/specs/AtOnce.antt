@@ -13,7 +13,7 @@ use Rattle.kt_state.specs.declared.change.Change.TheVariants as changes
 use Rattle.kt_state.specs.declared.message.Talk.TheVariants as talks
 use Rattle.kt_state.specs.declared.message.Message.{Message}
 use Rattle.kt_state.specs.declared.message.Message.TheVariants as messages
-use Rattle.kt_node.specs.declared.plan.Plan.{Plan}
+use Rattle.kt_state.specs.declared.plan.Plan.{Plan}
 use Rattle.kt_state.specs.Node.{node_number}
 use Rattle.kt_state.specs.Updating.{no_update}
 

@@ -12,15 +12,15 @@ use Rattle.kt_state.specs.declared.live.Phase.{Phase}
 use Rattle.kt_state.specs.declared.live.Phase.TheVariants as phases
 use Rattle.kt_state.specs.declared.change.Change.{Change}
 use Rattle.kt_state.specs.declared.change.Change.TheVariants as changes
-use Rattle.kt_node.specs.declared.plan.Plan.{Plan}
-use Rattle.kt_node.specs.declared.plan.Write.TheVariants as writes
+use Rattle.kt_state.specs.declared.plan.Plan.{Plan}
+use Rattle.kt_state.specs.declared.plan.Write.TheVariants as writes
 use Rattle.kt_state.specs.declared.refusal.Refusal.TheVariants as refusals
 use Rattle.kt_state.specs.Node.{Live, Node, Down, Alive}
 use Rattle.kt_node.specs.View.{View}
 use Rattle.kt_state.specs.Stored.{fits, acts_fit, is_undecided}
-use Rattle.kt_node.specs.Plan.{Planned}
+use Rattle.kt_state.specs.Plan.{Planned}
 use Rattle.kt_state.specs.Updating.{no_update, updating_to}
-use Rattle.kt_node.specs.Voting.{vote_for, voted, votes}
+use Rattle.kt_state.specs.Voting.{vote_for, voted, votes}
 use Rattle.kt_node.specs.Joining.{begin_check_plan}
 use Rattle.kt_state.specs.declared.stored.Stored.{Stored}
 use Rattle.kt_node.specs.Learning.{verdict_to, held_learns, rolling_learns, down_learns}

@@ -10,16 +10,16 @@ use Rattle.kt_vote.specs.Poll.{Poll, asking_poll}
 use Rattle.kt_state.specs.declared.live.Phase.{Phase}
 use Rattle.kt_state.specs.declared.live.Phase.TheVariants as phases
 use Rattle.kt_state.specs.declared.change.Change.TheVariants as changes
-use Rattle.kt_node.specs.declared.plan.Plan.{Plan}
-use Rattle.kt_node.specs.declared.plan.Write.TheVariants as writes
+use Rattle.kt_state.specs.declared.plan.Plan.{Plan}
+use Rattle.kt_state.specs.declared.plan.Write.TheVariants as writes
 use Rattle.kt_state.specs.declared.refusal.Refusal.{Refusal}
 use Rattle.kt_state.specs.declared.refusal.Refusal.TheVariants as refusals
 use Rattle.kt_state.specs.Labels.{label_at}
 use Rattle.kt_state.specs.Node.{Live, Node, Down, Alive, neighbours}
 use Rattle.kt_node.specs.View.{View}
 use Rattle.kt_state.specs.Stored.{acts_in, fits}
-use Rattle.kt_node.specs.Plan.{Planned}
-use Rattle.kt_node.specs.Joining.{roll_asks}
+use Rattle.kt_state.specs.Plan.{Planned}
+use Rattle.kt_state.specs.Asking.{roll_asks}
 use Rattle.kt_state.specs.declared.stored.Stored.{Stored}
 use Rattle.kt_node.specs.Loading.{load}
 use Rattle.kt_node.specs.Learning.{cut_of}

@@ -1,6 +1,5 @@
 -- How a node begins to vote in an instance: whom it asks, what is stored of it, and when it has voted at once.
--- Cited by asking.rt, failing.rt, joining.rt, specs/Arrivals, specs/Deciding, specs/Failing, specs/Saving,
---   specs/auxiliary/Between, `asking::check_asks`, `asking::roll_asks`, `joining::cohort`; kt_model, kt_refinement.
+-- Cited by joining.rt, specs/Arrivals, specs/Deciding, specs/Saving, `joining::cohort`; kt_model, kt_refinement.
 use Rattle.std.specs.Prelude.{ℕ, Bool, not, List, ◌++◌, map, filter, Option, None, Some}
 use Rattle.kt_tuple.specs.declared.node.NodeId.{NodeId}
 use Rattle.kt_ckpt.specs.declared.ckpt.Ckpt.{Ckpt}
@@ -13,9 +12,9 @@ use Rattle.kt_state.specs.declared.message.Message.TheVariants as messages
 use Rattle.kt_state.specs.declared.live.Phase.TheVariants as phases
 use Rattle.kt_state.specs.declared.change.KeptChange.TheVariants as keeps
 use Rattle.kt_state.specs.declared.change.Change.TheVariants as changes
-use Rattle.kt_node.specs.declared.plan.Plan.{Plan}
-use Rattle.kt_node.specs.declared.plan.Write.{Write}
-use Rattle.kt_node.specs.declared.plan.Write.TheVariants as writes
+use Rattle.kt_state.specs.declared.plan.Plan.{Plan}
+use Rattle.kt_state.specs.declared.plan.Write.{Write}
+use Rattle.kt_state.specs.declared.plan.Write.TheVariants as writes
 use Rattle.kt_link.specs.declared.label.Label.{Label}
 use Rattle.kt_state.specs.Labels.{up_to, label_at}
 use Rattle.kt_state.specs.Node.{Role, Live, node_number, neighbours}
@@ -23,7 +22,7 @@ use Rattle.kt_node.specs.View.{View}
 use Rattle.kt_state.specs.Stored.{sent_in, received_in}
 use Rattle.kt_state.specs.State.{checkpoint_of}
 use Rattle.kt_state.specs.Updating.{no_update}
-use Rattle.kt_node.specs.Voting.{casting, poll_after, votes}
+use Rattle.kt_state.specs.Voting.{casting, poll_after, votes}
 
 -- who asks
 abbrev pub asker_of : NodeId → Ask → Asker
@@ -38,20 +37,6 @@ is_in_cohort permanent n x =
 
 abbrev pub cohort : Role → Option CkptHeader → Live → List NodeId
 cohort role permanent n = filter (is_in_cohort permanent n) (neighbours role)
-
--- with the last label received from it
-abbrev pub check_ask : ℕ → Live → NodeId → NodeId × Message
-check_ask instance n x = (
-  x,
-  messages.CheckAsk record {
-    instance = instance;
-    label = label_at n.received (node_number x);
-    incarnation = n.incarnation;
-  },
-)
-
-abbrev pub check_asks : ℕ → Live → List NodeId → List (NodeId × Message)
-check_asks instance n asked = map (check_ask instance n) asked
 
 -- the node is held with this ballot, its tentative checkpoint is stored, its cohort is asked; a participant whose
 -- cohort is empty votes at once
@@ -80,16 +65,6 @@ join_check_plan v n from ask permanent =
     (writes.PutTentative ask.instance (checkpoint_now v n))
 
 -- ---- a rollback
-
--- each of these is asked with its label: that of the last message sent to it before the permanent checkpoint
-abbrev pub roll_ask : ℕ → ℕ → (ℕ → Label) → NodeId → NodeId × Message
-roll_ask instance incarnation label x = (
-  x,
-  messages.RollAsk record { instance = instance; label = label (node_number x); incarnation = incarnation },
-)
-
-abbrev pub roll_asks : ℕ → ℕ → (ℕ → Label) → List NodeId → List (NodeId × Message)
-roll_asks instance incarnation label asked = map (roll_ask instance incarnation label) asked
 
 -- the ballot of a participant, who asks all its neighbours
 abbrev pub roller : Role → Live → NodeId → Ask → Poll

@@ -1,7 +1,5 @@
 pub mod View
-pub mod Plan
 pub mod Talking
-pub mod Voting
 pub mod Steps
 pub mod Speaking
 pub mod Joining

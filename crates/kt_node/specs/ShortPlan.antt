@@ -4,7 +4,7 @@ use Rattle.std.specs.Prelude.{None, option_to_list}
 use Rattle.kt_state.specs.declared.change.Change.TheVariants as changes
 use Rattle.kt_state.specs.ShortUpdate.{update_of}
 use Rattle.kt_node.specs.declared.short_plan.ShortPlan.{ShortPlan}
-use Rattle.kt_node.specs.declared.plan.Plan.{Plan}
+use Rattle.kt_state.specs.declared.plan.Plan.{Plan}
 
 -- the plan that it stands for
 abbrev pub plan_of : ShortPlan → Plan

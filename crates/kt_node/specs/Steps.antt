@@ -19,7 +19,7 @@ use Rattle.kt_state.specs.declared.refusal.Refusal.TheVariants as refusals
 use Rattle.kt_state.specs.Node.{Live, Node, Down, Alive, worker_in, shard_in}
 use Rattle.kt_state.specs.Kept.{first_kept}
 use Rattle.kt_node.specs.View.{View}
-use Rattle.kt_node.specs.Plan.{Planned}
+use Rattle.kt_state.specs.Plan.{Planned}
 use Rattle.kt_node.specs.Talking.{issue_plan, repeat_plan, service_plan, heard_plan}
 
 -- the node, where it is up

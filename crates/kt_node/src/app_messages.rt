@@ -7,9 +7,8 @@ ghost use Rattle.kt_state.specs.Refusing.{Gives};
 ghost use Rattle.kt_node.specs.Speaking.{CanSpeak};
 ghost use Rattle.kt_node.specs.AppMessages.{hear_app, keep_plan};
 
-use crate::plan::{Outbox, Plan};
 use crate::view::View;
-use kt_state::{AppMessage, BodyChange, KeptChange, Phase, Refusal, Update};
+use kt_state::{AppMessage, BodyChange, KeptChange, Outbox, Phase, Plan, Refusal, Update};
 use kt_tuple::NodeId;
 use std::alloc::{AllocError, Global};
 

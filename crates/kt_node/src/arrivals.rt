@@ -14,12 +14,10 @@ ghost use Rattle.kt_state.specs.Node.{in_phase};
 
 use crate::joining::asker_of;
 use crate::learning::{held_learns, verdict_to};
-use crate::plan::Plan;
 use crate::reaction::{Reaction, check_reaction, is_in, rollback_reaction};
 use crate::view::View;
-use crate::voting::{cast, vote_alone, vote_for};
 use kt_ckpt::CkptHeader;
-use kt_state::{Ask, Live, Phase, Refusal, Stored, Update, fits};
+use kt_state::{Ask, Live, Phase, Plan, Refusal, Stored, Update, cast, fits, vote_alone, vote_for};
 use kt_store::Verdict;
 use kt_tuple::NodeId;
 use kt_vote::{Ballot, Vote};

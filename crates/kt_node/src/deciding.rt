@@ -9,16 +9,17 @@ ghost use Rattle.kt_node.specs.View.{view_of};
 ghost use Rattle.kt_node.specs.Deciding.{check, decide, decide_by, decide_plan, decided_change};
 ghost use Rattle.kt_node.specs.Deciding.{abandon, abandon_by, abandon_open, declined_plan, no_plan};
 ghost use Rattle.kt_node.specs.Deciding.{learn, learn_by, learn_down, learn_held, learn_in, settled};
-ghost use Rattle.kt_node.specs.Voting.{voted};
+ghost use Rattle.kt_state.specs.Voting.{voted};
 ghost use Rattle.kt_state.specs.Node.{in_phase};
-ghost use Rattle.kt_node.specs.declared.plan.Write.TheVariants.{Decide};
+ghost use Rattle.kt_state.specs.declared.plan.Write.TheVariants.{Decide};
 
 use crate::learning::{held_learns, verdict_to};
-use crate::plan::{Outbox, Plan, Write};
 use crate::view::View;
-use crate::voting::{vote_alone, vote_for};
 use kt_ckpt::CkptHeader;
-use kt_state::{Change, Phase, Refusal, Stored, Update, fits, is_undecided};
+use kt_state::{
+    Change, Outbox, Phase, Plan, Refusal, Stored, Update, Write, fits, is_undecided, vote_alone,
+    vote_for,
+};
 use kt_store::Verdict;
 use kt_tuple::NodeId;
 use kt_vote::{Asker, Ballot};

@@ -6,24 +6,25 @@ ghost use Rattle.std.specs.Option.{option_copied};
 ghost use Rattle.kt_vote.specs.Poll.{asking_poll};
 ghost use Rattle.kt_state.specs.declared.change.Change.TheVariants.{Load};
 ghost use Rattle.kt_state.specs.declared.live.Phase.TheVariants.{Rolling};
-ghost use Rattle.kt_node.specs.declared.plan.Write.TheVariants.{BeginRestart};
+ghost use Rattle.kt_state.specs.declared.plan.Write.TheVariants.{BeginRestart};
 ghost use Rattle.kt_state.specs.declared.stored.Stored.{Stored as StoredData};
 ghost use Rattle.kt_node.specs.Failing.{fail, log_left, restart, restart_of, restart_plan};
-ghost use Rattle.kt_node.specs.Joining.{roll_asks};
+ghost use Rattle.kt_state.specs.Asking.{roll_asks};
 ghost use Rattle.kt_state.specs.Labels.{label_at};
 ghost use Rattle.kt_state.specs.Node.{neighbours};
 ghost use Rattle.kt_state.specs.Refusing.{Gives, Refuses};
 ghost use Rattle.kt_node.specs.View.{View as ViewData, view_of};
 ghost use Rattle.kt_state.specs.Views.{role_view};
 
-use crate::asking::{Sent, roll_asks};
 use crate::joining::neighbours;
 use crate::learning::cut_of;
-use crate::plan::{Outbox, Plan, Write};
 use crate::view::View;
 use kt_ckpt::CkptHeader;
 use kt_link::Label;
-use kt_state::{Change, Loaded, Node, Phase, Refusal, Role, Stored, acts_in, fits};
+use kt_state::{
+    Change, Loaded, Node, Outbox, Phase, Plan, Refusal, Role, Sent, Stored, Write, acts_in, fits,
+    roll_asks,
+};
 use kt_store::Verdict;
 use kt_vote::Ballot;
 use std::alloc::{AllocError, Global};

@@ -14,12 +14,11 @@ ghost use Rattle.kt_node.specs.View.{view_of};
 ghost use Rattle.kt_state.specs.Ready.{CanCount};
 ghost use Rattle.kt_node.specs.Talking.{hearing, note_of, again_plan, request_plan, reply_plan, heard_plan};
 
-use crate::plan::{Outbox, Plan};
 use crate::view::View;
 use kt_history::{Note, What};
 use kt_link::Label;
 use kt_shard::{Arrival, Request};
-use kt_state::{AppMessage, Body, BodyChange, KeptChange, Live, Talk, Update};
+use kt_state::{AppMessage, Body, BodyChange, KeptChange, Live, Outbox, Plan, Talk, Update};
 use kt_tuple::{Answer, NodeId};
 use kt_worker::Worker;
 use std::alloc::{AllocError, Global};

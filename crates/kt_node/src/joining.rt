@@ -15,16 +15,14 @@ ghost use Rattle.kt_node.specs.Joining.{asker_of, begin_check_plan, cohort, is_i
 ghost use Rattle.kt_node.specs.auxiliary.Between.{held_ballot};
 ghost use Rattle.kt_node.specs.Joining.{join_check_plan, join_rollback_plan, rolling_plan};
 ghost use Rattle.kt_state.specs.Updating.{updating_to};
-ghost use Rattle.kt_node.specs.Voting.{casting, poll_after, votes};
+ghost use Rattle.kt_state.specs.Voting.{casting, poll_after, votes};
 ghost use Rattle.kt_state.specs.declared.live.Phase.TheVariants.{Held};
 
-use crate::asking::{Sent, check_asks, roll_asks};
-use crate::plan::{Outbox, Plan, Write};
 use crate::view::View;
-use crate::voting::{add_vote, cast};
 use kt_ckpt::{Acts, CkptHeader};
 use kt_state::{
-    Ask, Change, Live, Phase, Role, Update, checkpoint_of, label_at, received_in, up_to,
+    Ask, Change, Live, Outbox, Phase, Plan, Role, Sent, Update, Write, add_vote, cast, check_asks,
+    checkpoint_of, label_at, received_in, roll_asks, up_to,
 };
 use kt_tuple::NodeId;
 use kt_vote::{Asker, Ballot};

@@ -5,7 +5,7 @@ ghost use Rattle.std.specs.Prelude.{◌≡◌, ◌<◌, ℕ, Ok};
 ghost use Rattle.kt_shard.specs.Limits.{sessions};
 ghost use Rattle.kt_tuple.specs.declared.node.NodeId.{NodeId};
 ghost use Rattle.kt_state.specs.declared.message.AppMessage.{AppMessage};
-ghost use Rattle.kt_node.specs.declared.plan.Plan.{Plan};
+ghost use Rattle.kt_state.specs.declared.plan.Plan.{Plan};
 ghost use Rattle.kt_node.specs.View.{View};
 ghost use Rattle.kt_node.specs.Speaking.{CanAct, HasPlace};
 ghost use Rattle.kt_state.specs.Ready.{CanChange};

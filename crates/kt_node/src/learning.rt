@@ -8,12 +8,14 @@ ghost use Rattle.kt_node.specs.Learning.{cut_of, down_learns, held_learns, relea
 ghost use Rattle.kt_node.specs.Learning.{restored, rolling_learns, verdict_to};
 ghost use Rattle.kt_node.specs.Loading.{load};
 ghost use Rattle.kt_state.specs.declared.change.Change.TheVariants.{Load};
-ghost use Rattle.kt_node.specs.declared.plan.Write.TheVariants.{Bump};
+ghost use Rattle.kt_state.specs.declared.plan.Write.TheVariants.{Bump};
 
-use crate::plan::{Outbox, Plan, Write};
 use crate::view::View;
 use kt_history::Note;
-use kt_state::{BodyChange, Change, KeptChange, Loaded, Message, Phase, Refusal, Stored, Update};
+use kt_state::{
+    BodyChange, Change, KeptChange, Loaded, Message, Outbox, Phase, Plan, Refusal, Stored, Update,
+    Write,
+};
 use kt_tuple::NodeId;
 use std::alloc::{AllocError, Global};
 

@@ -7,12 +7,11 @@
 //! - Stands on: kt_tuple, kt_script, kt_space, kt_link, kt_shard, kt_worker, kt_vote, kt_history, kt_ckpt, kt_store,
 //!   kt_state
 //! - Used by: kt_model, kt_resume, kt_refinement, kt_core, kt_stage, kt_run
-//! - Begin in: `plan.rt`, which says what a plan is, then `steps.rt` for steps and `arrivals.rt` for messages.
+//! - Begin in: `steps.rt` for steps and `arrivals.rt` for messages. What a plan is, kt_state says.
 #![tactic(auto)]
 
 mod app_messages;
 mod arrivals;
-mod asking;
 mod at_once;
 mod deciding;
 mod failing;
@@ -20,21 +19,18 @@ mod hearing;
 mod joining;
 mod laws;
 mod learning;
-mod plan;
 mod reaction;
 mod short_plan;
 mod steps;
 mod talking;
 mod view;
-mod voting;
 
 pub use at_once::{Again, Said};
 pub use kt_state::{
     AppMessage, Ask, Body, BodyChange, Boxed, Change, KeptChange, Loaded, Message, Mode, Node,
-    Phase, Refusal, Role, ShortUpdate, Stored, Talk, Update,
+    Outbox, Phase, Plan, Refusal, Role, ShortUpdate, Stored, Talk, Update, Write,
 };
 pub use laws::plans_can_be_carried_out;
-pub use plan::{Outbox, Plan, Write};
 pub use reaction::Reaction;
 pub use short_plan::ShortPlan;
 pub use view::View;

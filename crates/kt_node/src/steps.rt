@@ -13,11 +13,10 @@ ghost use Rattle.kt_node.specs.Talking.{repeat_plan, request_for};
 ghost use Rattle.kt_state.specs.Kept.{first_kept};
 ghost use Rattle.kt_node.specs.Steps.{issue, issue_found, repeat, serve, take, unserved_as, up_of};
 
-use crate::plan::Plan;
 use crate::view::View;
 use kt_script::Script;
 use kt_shard::{Request, ServeError};
-use kt_state::{AppMessage, Body, KeptChange, Live, Phase, Refusal};
+use kt_state::{AppMessage, Body, KeptChange, Live, Phase, Plan, Refusal};
 use kt_tuple::{NodeId, Op};
 use kt_worker::Worker;
 use std::alloc::{AllocError, Global};

@@ -10,12 +10,11 @@ ghost use Rattle.kt_node.specs.View.{view_of};
 ghost use Rattle.kt_state.specs.Ready.{CanCount};
 ghost use Rattle.kt_node.specs.Talking.{home, note_of, app_of, issue_plan, repeat_plan, service_plan};
 
-use crate::plan::{Outbox, Plan};
 use crate::view::View;
 use kt_history::{Act, Note, What};
 use kt_link::Label;
 use kt_shard::{Prepared, Request};
-use kt_state::{AppMessage, BodyChange, Live, Message, Talk, Update};
+use kt_state::{AppMessage, BodyChange, Live, Message, Outbox, Plan, Talk, Update};
 use kt_tuple::{Answer, NodeId, Op};
 use kt_worker::Worker;
 use std::alloc::{AllocError, Global};

@@ -20,14 +20,14 @@ use Rattle.kt_state.specs.declared.live.Phase.TheVariants as phases
 use Rattle.kt_state.specs.declared.change.KeptChange.{KeptChange}
 use Rattle.kt_state.specs.declared.change.KeptChange.TheVariants as keeps
 use Rattle.kt_state.specs.declared.change.Change.TheVariants as changes
-use Rattle.kt_node.specs.declared.plan.Plan.{Plan}
+use Rattle.kt_state.specs.declared.plan.Plan.{Plan}
 use Rattle.kt_node.specs.declared.reaction.Reaction.{Reaction}
 use Rattle.kt_node.specs.declared.reaction.Reaction.TheVariants as reactions
 use Rattle.kt_state.specs.Labels.{label_at, up_to}
 use Rattle.kt_state.specs.Node.{Live, Alive, node_number}
 use Rattle.kt_state.specs.Updating.{no_update}
 use Rattle.kt_state.specs.Stored.{is_undecided, sent_in}
-use Rattle.kt_node.specs.Voting.{vote_for, votes}
+use Rattle.kt_state.specs.Voting.{vote_for, votes}
 use Rattle.kt_node.specs.Joining.{asker_of}
 use Rattle.kt_state.specs.Updating.{updated, changed_kept}
 use Rattle.kt_node.specs.Arrivals.{is_in, check_in, check_when_open, check_reaction, answer_plan}

@@ -15,11 +15,12 @@ use Rattle.kt_store.specs.Changes.{opening}
 use Rattle.kt_store.proofs.Shared.{begun_is_read}
 use Rattle.kt_vote.specs.Poll.{Poll, asking_poll}
 use Rattle.kt_state.specs.declared.live.Phase.TheVariants as phases
-use Rattle.kt_node.specs.declared.plan.Plan.{Plan}
+use Rattle.kt_state.specs.declared.plan.Plan.{Plan}
 use Rattle.kt_state.specs.Node.{Live, Alive}
 use Rattle.kt_state.specs.Updating.{no_update}
 use Rattle.kt_state.specs.Updating.{updated}
-use Rattle.kt_node.specs.Joining.{is_in_cohort, check_asks, checkpoint_now, begin_check_plan}
+use Rattle.kt_state.specs.Asking.{check_asks}
+use Rattle.kt_node.specs.Joining.{is_in_cohort, checkpoint_now, begin_check_plan}
 use Rattle.kt_scenario.specs.declared.step.Step.TheVariants.{Check as TakesCheck}
 use Rattle.kt_scenario.specs.Scene.{is_node}
 use Rattle.kt_model.specs.State.{State as World, view}

@@ -17,7 +17,8 @@ use Rattle.kt_state.specs.Node.{Live, node_number}
 use Rattle.kt_ckpt.specs.declared.acts.LogAct.{LogAct}
 use Rattle.kt_state.specs.State.{checkpoint_of}
 use Rattle.kt_state.specs.Stored.{received_in}
-use Rattle.kt_node.specs.Joining.{is_in_cohort, check_asks}
+use Rattle.kt_state.specs.Asking.{check_asks}
+use Rattle.kt_node.specs.Joining.{is_in_cohort}
 use Rattle.kt_scenario.specs.Scene.{SceneModel}
 use Rattle.kt_model.specs.State.{State as World, role_of}
 use Rattle.kt_model.specs.auxiliary.Ready.{AreNeighbours}

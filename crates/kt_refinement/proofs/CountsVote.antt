@@ -15,7 +15,7 @@ use Rattle.kt_state.specs.declared.live.Phase.TheVariants as phases
 use Rattle.kt_state.specs.Node.{Live, Alive}
 use Rattle.kt_state.specs.Updating.{no_update}
 use Rattle.kt_state.specs.Updating.{updated}
-use Rattle.kt_node.specs.Voting.{casting, vote_for, poll_after, voted, votes}
+use Rattle.kt_state.specs.Voting.{casting, vote_for, poll_after, voted, votes}
 use Rattle.kt_node.specs.Arrivals.{voting_plan}
 use Rattle.kt_scenario.specs.declared.step.Step.TheVariants.{Deliver}
 use Rattle.kt_model.specs.State.{State as World, node}

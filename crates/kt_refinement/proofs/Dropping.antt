@@ -11,7 +11,7 @@ use Rattle.kt_state.specs.declared.message.Message.{Message as RealMessage}
 use Rattle.kt_state.specs.declared.message.Message.TheVariants as messages
 use Rattle.kt_state.specs.declared.change.Change.TheVariants as changes
 use Rattle.kt_state.specs.Node.{Node as RealNode, Down as IsDown}
-use Rattle.kt_node.specs.Plan.{empty_plan}
+use Rattle.kt_state.specs.Plan.{empty_plan}
 use Rattle.kt_state.specs.Updating.{changed}
 use Rattle.kt_scenario.specs.declared.step.Step.TheVariants.{Deliver}
 use Rattle.kt_model.specs.State.{State as World, node}

@@ -16,7 +16,7 @@ use Rattle.kt_state.specs.declared.message.Ask.{Ask as RealAsk}
 use Rattle.kt_state.specs.declared.message.Message.TheVariants as messages
 use Rattle.kt_state.specs.declared.live.Phase.TheVariants as phases
 use Rattle.kt_state.specs.declared.node.Mode.TheVariants as modes
-use Rattle.kt_node.specs.declared.plan.Plan.{Plan}
+use Rattle.kt_state.specs.declared.plan.Plan.{Plan}
 use Rattle.kt_node.specs.declared.reaction.Reaction.TheVariants as reactions
 use Rattle.kt_state.specs.Labels.{up_to, label_at}
 use Rattle.kt_state.specs.Node.{Live, node_number}

@@ -22,7 +22,7 @@ use Rattle.kt_store.specs.Content.{row_of, instance_row, verdict_on}
 use Rattle.kt_vote.specs.declared.vote.Vote.{Vote as RealVote}
 use Rattle.kt_state.specs.declared.message.Message.{Message as RealMessage}
 use Rattle.kt_state.specs.declared.message.Message.TheVariants as messages
-use Rattle.kt_node.specs.declared.plan.Plan.{Plan}
+use Rattle.kt_state.specs.declared.plan.Plan.{Plan}
 use Rattle.kt_state.specs.Node.{Node as RealNode}
 use Rattle.kt_state.specs.Updating.{changed}
 use Rattle.kt_scenario.specs.declared.step.Step.{Step}

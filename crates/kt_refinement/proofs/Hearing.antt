@@ -16,7 +16,7 @@ use Rattle.kt_state.specs.declared.change.BodyChange.{BodyChange}
 use Rattle.kt_state.specs.declared.change.BodyChange.TheVariants as bodies
 use Rattle.kt_state.specs.declared.change.KeptChange.{KeptChange}
 use Rattle.kt_state.specs.declared.change.Change.TheVariants as changes
-use Rattle.kt_node.specs.declared.plan.Plan.{Plan}
+use Rattle.kt_state.specs.declared.plan.Plan.{Plan}
 use Rattle.kt_state.specs.Labels.{no_label, label_at}
 use Rattle.kt_state.specs.Node.{Live, Alive, node_number, next_label}
 use Rattle.kt_state.specs.Updating.{changed_kept, updated}

@@ -15,7 +15,7 @@ use Rattle.kt_state.specs.declared.change.BodyChange.{BodyChange}
 use Rattle.kt_state.specs.declared.change.BodyChange.TheVariants as bodies
 use Rattle.kt_state.specs.declared.change.KeptChange.{KeptChange}
 use Rattle.kt_state.specs.declared.change.KeptChange.TheVariants as keeps
-use Rattle.kt_node.specs.declared.plan.Plan.{Plan}
+use Rattle.kt_state.specs.declared.plan.Plan.{Plan}
 use Rattle.kt_state.specs.Node.{Live, Node as RealNode, node_number}
 use Rattle.kt_node.specs.Talking.{act_of, note_of, hearing, heard_plan}
 use Rattle.kt_scenario.specs.declared.step.Step.{Step}

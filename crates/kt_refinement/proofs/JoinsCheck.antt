@@ -16,16 +16,17 @@ use Rattle.kt_state.specs.declared.message.Message.{Message as RealMessage}
 use Rattle.kt_state.specs.declared.message.Message.TheVariants as messages
 use Rattle.kt_state.specs.declared.live.Phase.TheVariants as phases
 use Rattle.kt_state.specs.declared.change.Change.TheVariants as changes
-use Rattle.kt_node.specs.declared.plan.Plan.{Plan}
-use Rattle.kt_node.specs.declared.plan.Write.TheVariants as writes
+use Rattle.kt_state.specs.declared.plan.Plan.{Plan}
+use Rattle.kt_state.specs.declared.plan.Write.TheVariants as writes
 use Rattle.kt_node.specs.declared.reaction.Reaction.{Reaction}
 use Rattle.kt_node.specs.declared.reaction.Reaction.TheVariants as reactions
 use Rattle.kt_state.specs.Labels.{up_to}
 use Rattle.kt_state.specs.Node.{Live, Alive, node_number}
 use Rattle.kt_state.specs.Updating.{no_update}
 use Rattle.kt_state.specs.Stored.{is_undecided, sent_in}
-use Rattle.kt_node.specs.Voting.{casting, poll_after, voted, vote_for, votes}
-use Rattle.kt_node.specs.Joining.{asker_of, is_in_cohort, check_asks, checkpoint_now, join_check_plan}
+use Rattle.kt_state.specs.Voting.{casting, poll_after, voted, vote_for, votes}
+use Rattle.kt_state.specs.Asking.{check_asks}
+use Rattle.kt_node.specs.Joining.{asker_of, is_in_cohort, checkpoint_now, join_check_plan}
 use Rattle.kt_state.specs.Updating.{updated}
 use Rattle.kt_node.specs.Arrivals.{check_in, check_reaction}
 use Rattle.kt_scenario.specs.declared.step.Step.TheVariants.{Deliver}

@@ -17,13 +17,14 @@ use Rattle.kt_state.specs.declared.message.Message.TheVariants as messages
 use Rattle.kt_state.specs.declared.live.Phase.TheVariants as phases
 use Rattle.kt_state.specs.declared.change.KeptChange.TheVariants as keeps
 use Rattle.kt_state.specs.declared.change.Change.TheVariants as changes
-use Rattle.kt_node.specs.declared.plan.Plan.{Plan}
+use Rattle.kt_state.specs.declared.plan.Plan.{Plan}
 use Rattle.kt_state.specs.Labels.{label_at, up_to}
 use Rattle.kt_state.specs.Node.{Live, Alive, neighbours, node_number}
 use Rattle.kt_state.specs.Updating.{no_update}
 use Rattle.kt_state.specs.Stored.{is_undecided, sent_in}
-use Rattle.kt_node.specs.Voting.{casting, casting_to, poll_after, votes}
-use Rattle.kt_node.specs.Joining.{asker_of, roll_asks, roller, join_rollback_plan}
+use Rattle.kt_state.specs.Voting.{casting, casting_to, poll_after, votes}
+use Rattle.kt_state.specs.Asking.{roll_asks}
+use Rattle.kt_node.specs.Joining.{asker_of, roller, join_rollback_plan}
 use Rattle.kt_state.specs.Updating.{updated}
 use Rattle.kt_scenario.specs.declared.step.Step.TheVariants.{Deliver}
 use Rattle.kt_model.specs.State.{State as World, role_of, view}

@@ -2,7 +2,7 @@
 -- Cited by `laws::checkpoints_and_rollbacks_are_forced`; kt_core.
 use Rattle.std.proofs.Common.{◌≡◌, Ok, Err, Result, inl, inr, refl, ap, subst}
 use Rattle.kt_tuple.specs.declared.node.NodeId.{NodeId}
-use Rattle.kt_node.specs.declared.plan.Plan.{Plan}
+use Rattle.kt_state.specs.declared.plan.Plan.{Plan}
 use Rattle.kt_state.specs.declared.node.Mode.{Mode}
 use Rattle.kt_state.specs.declared.node.Mode.TheVariants as modes
 use Rattle.kt_scenario.specs.declared.step.Step.{Step}

@@ -12,7 +12,7 @@ use Rattle.kt_store.specs.declared.rows.NodeRow.{NodeRow}
 use Rattle.kt_store.specs.declared.rows.Verdict.{Verdict as RealVerdict}
 use Rattle.kt_store.specs.Verdict.{verdict_from}
 use Rattle.kt_store.specs.Content.{row_of, verdict_on}
-use Rattle.kt_node.specs.declared.plan.Plan.{Plan}
+use Rattle.kt_state.specs.declared.plan.Plan.{Plan}
 use Rattle.kt_state.specs.Node.{Node as RealNode, Down as IsDownNode}
 use Rattle.kt_state.specs.Stored.{acts_in}
 use Rattle.kt_node.specs.Learning.{promote_down_plan, discard_down_plan}

@@ -14,8 +14,8 @@ use Rattle.kt_store.specs.declared.rows.Verdict.{Verdict as RealVerdict}
 use Rattle.kt_store.specs.declared.rows.Verdict.TheVariants as verdicts
 use Rattle.kt_store.specs.Content.{row_of, verdict_on}
 use Rattle.kt_state.specs.declared.change.Change.TheVariants as changes
-use Rattle.kt_node.specs.declared.plan.Plan.{Plan}
-use Rattle.kt_node.specs.declared.plan.Write.TheVariants as writes
+use Rattle.kt_state.specs.declared.plan.Plan.{Plan}
+use Rattle.kt_state.specs.declared.plan.Write.TheVariants as writes
 use Rattle.kt_state.specs.Node.{Node as RealNode, Down as IsDownNode}
 use Rattle.kt_state.specs.Stored.{acts_in}
 use Rattle.kt_node.specs.Learning.{discard_down_plan}

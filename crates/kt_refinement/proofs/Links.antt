@@ -18,7 +18,7 @@ use Rattle.kt_model.specs.State.{State, link, link_place}
 use Rattle.kt_scenario.specs.Step.{owner}
 use Rattle.kt_model.specs.Effect.{Way, sent_one, sent, taken_off, applied}
 use Rattle.kt_model.specs.auxiliary.Ready.{AreNeighbours}
-use Rattle.kt_node.specs.declared.plan.Plan.{Plan}
+use Rattle.kt_state.specs.declared.plan.Plan.{Plan}
 use Rattle.kt_model.proofs.Shared.{linked}
 
 abbrev Links : Type 0

@@ -1,6 +1,6 @@
 -- Each plan of a step is a run of the machine: one leaf after the other.
 -- Cited by Refined.
-use Rattle.kt_node.specs.declared.plan.Plan.{Plan}
+use Rattle.kt_state.specs.declared.plan.Plan.{Plan}
 use Rattle.kt_scenario.specs.declared.step.Step.{Step}
 use Rattle.kt_scenario.specs.declared.step.Step.TheVariants.{Issue, Repeat, Deliver, Take, Serve, Check, Decide, Abandon, Learn, Fail, Restart}
 use Rattle.kt_scenario.specs.Step.{owner}

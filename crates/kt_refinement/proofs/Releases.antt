@@ -186,7 +186,7 @@ releases-so s c is h step n b agreed send alive held decided links cast = by agr
 
 -- what is sent is the same for both verdicts
 held-links : (s : World) (step : Step) (c : State) (agreed : Bool) (send : List (NodeId × RealMessage))
-    → ((plan : Rattle.kt_node.specs.declared.plan.Plan.Plan) → plan.send ≡ send → LinksLead s step plan c c.link)
+    → ((plan : Rattle.kt_state.specs.declared.plan.Plan.Plan) → plan.send ≡ send → LinksLead s step plan c c.link)
     → LinksLead s step (held_learns agreed send) c c.link
 held-links s step c true send links = links (held_learns true send) refl
 held-links s step c false send links = links (held_learns false send) refl

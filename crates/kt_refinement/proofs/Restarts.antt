@@ -12,7 +12,7 @@ use Rattle.kt_store.specs.declared.rows.Purpose.TheVariants as purposes
 use Rattle.kt_store.specs.declared.rows.Tentative.{Tentative}
 use Rattle.kt_store.specs.Content.{Content, row_of, next_instance, verdict_on}
 use Rattle.kt_state.specs.declared.live.Phase.TheVariants as phases
-use Rattle.kt_node.specs.declared.plan.Plan.{Plan}
+use Rattle.kt_state.specs.declared.plan.Plan.{Plan}
 use Rattle.kt_state.specs.Labels.{label_at}
 use Rattle.kt_state.specs.Node.{Live, Alive, neighbours, node_number}
 use Rattle.kt_node.specs.Loading.{load}

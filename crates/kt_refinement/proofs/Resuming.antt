@@ -2,7 +2,7 @@
 -- all is settled that was found.
 -- Cited by Lasting, Leaving, Whole.
 use Rattle.std.proofs.Common.{◌≡◌, ◌∷◌, [], List, Ok, Err, Result, inl, inr, refl, sym, subst}
-use Rattle.kt_node.specs.declared.plan.Plan.{Plan}
+use Rattle.kt_state.specs.declared.plan.Plan.{Plan}
 use Rattle.kt_scenario.specs.declared.step.Step.{Step}
 use Rattle.kt_model.specs.declared.error.StepError.{StepError}
 use Rattle.kt_model.specs.State.{State as World}

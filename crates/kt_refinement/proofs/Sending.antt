@@ -16,7 +16,7 @@ use Rattle.kt_state.specs.declared.live.Phase.TheVariants as phases
 use Rattle.kt_state.specs.declared.change.BodyChange.{BodyChange}
 use Rattle.kt_state.specs.declared.change.KeptChange.TheVariants as keeps
 use Rattle.kt_state.specs.declared.change.Change.TheVariants as changes
-use Rattle.kt_node.specs.declared.plan.Plan.{Plan}
+use Rattle.kt_state.specs.declared.plan.Plan.{Plan}
 use Rattle.kt_state.specs.Node.{Live, Alive, next_label, node_number}
 use Rattle.kt_state.specs.Labels.{no_label, label_at}
 use Rattle.kt_shard.specs.Table.{put}

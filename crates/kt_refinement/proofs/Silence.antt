@@ -6,7 +6,7 @@ use Rattle.std.specs.List.{AllByRecursion}
 use Rattle.kt_tuple.specs.declared.node.NodeId.{NodeId}
 use Rattle.kt_tuple.specs.Node.{node_index}
 use Rattle.kt_state.specs.declared.message.Message.{Message as RealMessage}
-use Rattle.kt_node.specs.declared.plan.Plan.{Plan}
+use Rattle.kt_state.specs.declared.plan.Plan.{Plan}
 use Rattle.kt_scenario.specs.declared.step.Step.TheVariants.{Deliver}
 use Rattle.kt_model.specs.State.{State as World, link}
 use Rattle.kt_model.proofs.Shared.{Comes}

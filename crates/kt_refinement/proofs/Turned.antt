@@ -14,7 +14,7 @@ use Rattle.kt_state.specs.declared.node.Mode.TheVariants as modes
 use Rattle.kt_state.specs.declared.change.Change.{Change}
 use Rattle.kt_state.specs.declared.change.KeptChange.{KeptChange}
 use Rattle.kt_state.specs.declared.change.KeptChange.TheVariants as keeps
-use Rattle.kt_node.specs.declared.plan.Plan.{Plan}
+use Rattle.kt_state.specs.declared.plan.Plan.{Plan}
 use Rattle.kt_node.specs.declared.reaction.Reaction.TheVariants as reactions
 use Rattle.kt_state.specs.Labels.{up_to, label_at}
 use Rattle.kt_state.specs.Node.{Node as RealNode, Live, Alive, Down as IsDownNode, node_number, mode_in, mode_of}

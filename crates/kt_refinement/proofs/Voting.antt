@@ -16,7 +16,7 @@ use Rattle.kt_state.specs.declared.live.Phase.TheVariants as phases
 use Rattle.kt_state.specs.Node.{Live, Alive}
 use Rattle.kt_state.specs.Updating.{no_update}
 use Rattle.kt_state.specs.Updating.{updated}
-use Rattle.kt_node.specs.Voting.{casting, casting_to, vote_for, voted, votes}
+use Rattle.kt_state.specs.Voting.{casting, casting_to, vote_for, voted, votes}
 use Rattle.kt_node.specs.Deciding.{declined_plan}
 use Rattle.kt_scenario.specs.declared.step.Step.TheVariants.{Abandon}
 use Rattle.kt_model.specs.State.{State as World}
@@ -127,11 +127,11 @@ is_due b = by b.parent refl where
   outcome parent e f None g = nothing
   outcome parent e f (Some agreed) g = due parent agreed e f g
 
-  unless : (parent : Asker) → b.parent ≡ Some parent → (v : Bool) → b.voted ≡ v → IsDue b (Rattle.kt_node.specs.Voting.casting_unless v b parent)
+  unless : (parent : Asker) → b.parent ≡ Some parent → (v : Bool) → b.voted ≡ v → IsDue b (Rattle.kt_state.specs.Voting.casting_unless v b parent)
   unless parent e true f = nothing
   unless parent e false f = outcome parent e f (outcome_of b) refl
 
-  by : (o : Option Asker) → b.parent ≡ o → IsDue b (Rattle.kt_node.specs.Voting.casting_of b o)
+  by : (o : Option Asker) → b.parent ≡ o → IsDue b (Rattle.kt_state.specs.Voting.casting_of b o)
   by None e = nothing
   by (Some parent) e = unless parent e b.voted refl
 

@@ -11,7 +11,7 @@ use Rattle.kt_store.specs.declared.error.StoreError.{StoreError}
 use Rattle.kt_store.specs.declared.store.CkptStore.{Ghosts}
 use Rattle.kt_link.specs.Network.{entry_at}
 use Rattle.kt_state.specs.Node.{Node, Down, mode_of}
-use Rattle.kt_node.specs.Plan.{Planned}
+use Rattle.kt_state.specs.Plan.{Planned}
 use Rattle.kt_state.specs.declared.node.Mode.{Mode}
 use Rattle.kt_state.specs.declared.node.Mode.TheVariants as modes
 use Rattle.kt_scenario.specs.declared.step.Step.{Step}

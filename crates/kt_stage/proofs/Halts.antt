@@ -13,7 +13,7 @@ use Rattle.kt_store.specs.declared.rows.NodeRow.{NodeRow}
 use Rattle.kt_store.specs.Content.{Content, greatest, next_instance, row_or}
 use Rattle.kt_store.specs.Proper.{IsFull, instances, incarnations}
 use Rattle.kt_store.specs.Calls.{Counts, counted, most, raised, raised_by}
-use Rattle.kt_node.specs.declared.plan.Plan.{Plan}
+use Rattle.kt_state.specs.declared.plan.Plan.{Plan}
 use Rattle.kt_scenario.specs.declared.step.Step.{Step}
 use Rattle.kt_model.specs.declared.error.StepError.{StepError}
 use Rattle.kt_model.specs.declared.error.StepError.TheVariants as refusals

@@ -6,7 +6,7 @@ use Rattle.kt_tuple.specs.declared.node.NodeId.{NodeId}
 use Rattle.kt_tuple.specs.Node.{node_number}
 use Rattle.kt_scenario.specs.declared.step.Step.TheVariants.{Serve}
 use Rattle.kt_state.specs.Node.{Live, shard_in}
-use Rattle.kt_node.specs.Plan.{Planned}
+use Rattle.kt_state.specs.Plan.{Planned}
 use Rattle.kt_node.specs.View.{View}
 use Rattle.kt_node.specs.Steps.{by_up, serve_by, up_of}
 use Rattle.kt_scenario.specs.Scene.{is_in_scene}

@@ -14,14 +14,14 @@ use Rattle.kt_store.specs.declared.rows.Verdict.TheVariants as verdicts
 use Rattle.kt_store.specs.Content.{Content, verdict_of}
 use Rattle.kt_vote.specs.declared.asker.Asker.{Asker}
 use Rattle.kt_vote.specs.Poll.{Poll}
-use Rattle.kt_node.specs.declared.plan.Plan.{Plan}
+use Rattle.kt_state.specs.declared.plan.Plan.{Plan}
 use Rattle.kt_state.specs.declared.refusal.Refusal.{Refusal}
 use Rattle.kt_state.specs.declared.refusal.Refusal.TheVariants as reasons
 use Rattle.kt_state.specs.declared.live.Phase.{Phase}
 use Rattle.kt_state.specs.declared.live.Phase.TheVariants as phases
 use Rattle.kt_state.specs.declared.stored.Stored.{Stored as Saved}
 use Rattle.kt_state.specs.Node.{Body, Live, Node, Down, Alive, Role, mode_in, mode_of, poll_in, poll_of}
-use Rattle.kt_node.specs.Plan.{Planned, empty_plan}
+use Rattle.kt_state.specs.Plan.{Planned, empty_plan}
 use Rattle.kt_state.specs.declared.message.Message.{Message}
 use Rattle.kt_state.specs.declared.message.Message.TheVariants as messages
 use Rattle.kt_node.specs.declared.reaction.Reaction.{Reaction}

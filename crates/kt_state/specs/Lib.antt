@@ -10,4 +10,7 @@ pub mod Stored
 pub mod State
 pub mod Refusing
 pub mod Loading
+pub mod Plan
+pub mod Asking
+pub mod Voting
 pub mod auxiliary

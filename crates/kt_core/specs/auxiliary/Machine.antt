@@ -11,7 +11,7 @@ use Rattle.kt_history.specs.Chronicle.{room_of}
 use Rattle.kt_link.specs.Network.{room}
 use Rattle.kt_shard.specs.Table.{at}
 use Rattle.kt_store.specs.Content.{Content}
-use Rattle.kt_node.specs.declared.plan.Plan.{Plan}
+use Rattle.kt_state.specs.declared.plan.Plan.{Plan}
 use Rattle.kt_model.specs.declared.error.StepError.{StepError}
 use Rattle.kt_model.specs.declared.error.StepError.TheVariants as refusals
 use Rattle.kt_model.specs.State.{State}

@@ -3,7 +3,7 @@
 use Rattle.std.specs.Prelude.{IsTrue, Bool, true, false, is_some, Result, Ok, Err}
 use Rattle.kt_state.specs.declared.refusal.Refusal.TheVariants as reasons
 use Rattle.kt_node.specs.View.{View}
-use Rattle.kt_node.specs.Plan.{Planned}
+use Rattle.kt_state.specs.Plan.{Planned}
 use Rattle.kt_node.specs.Deciding.{check, decide, abandon, learn}
 use Rattle.kt_node.specs.Failing.{fail, restart}
 use Rattle.kt_scenario.specs.declared.step.Step.{Step}
@@ -11,7 +11,7 @@ use Rattle.kt_scenario.specs.declared.step.Step.TheVariants.{Check, Decide, Aban
 use Rattle.kt_model.specs.declared.error.StepError.{StepError}
 use Rattle.kt_model.specs.declared.error.StepError.TheVariants as refusals
 use Rattle.kt_model.specs.declared.store_reads.StoreReads.{StoreReads}
-use Rattle.kt_node.specs.declared.plan.Plan.{Plan}
+use Rattle.kt_state.specs.declared.plan.Plan.{Plan}
 use Rattle.kt_model.specs.StepPlan.{is_at_limit}
 use Rattle.kt_model.specs.State.{State}
 use Rattle.kt_core.specs.Store.{IsFault}

@@ -21,7 +21,7 @@ use Rattle.kt_state.specs.declared.message.AppMessage.{AppMessage}
 use Rattle.kt_state.specs.declared.message.Message.{Message}
 use Rattle.kt_state.specs.declared.message.Message.TheVariants as messages
 use Rattle.kt_state.specs.declared.live.Phase.{Phase}
-use Rattle.kt_node.specs.declared.plan.Plan.{Plan}
+use Rattle.kt_state.specs.declared.plan.Plan.{Plan}
 use Rattle.kt_state.specs.Node.{Body, IsWorker, IsShard, Live, Node, Down, Alive, poll_in}
 use Rattle.kt_state.specs.Ready.{CanChange}
 use Rattle.kt_model.specs.Limits.{rows as row_count}

@@ -1,10 +1,9 @@
 -- Plans as plain data.
--- Cited by Acting, plan.rt, specs/AppMessages, specs/Arrivals, specs/Deciding, specs/Failing, specs/Learning,
---   specs/Steps; kt_core, kt_model, kt_refinement, kt_run, kt_stage.
+-- Cited by plan.rt; kt_core, kt_model, kt_node, kt_refinement, kt_run, kt_stage.
 use Rattle.std.specs.Prelude.{[], None, Result}
 use Rattle.kt_state.specs.declared.change.Change.TheVariants as changes
 use Rattle.kt_state.specs.declared.refusal.Refusal.{Refusal}
-use Rattle.kt_node.specs.declared.plan.Plan.{Plan}
+use Rattle.kt_state.specs.declared.plan.Plan.{Plan}
 
 -- the plan of a step, or why it is not made
 abbrev pub Planned : Type 0

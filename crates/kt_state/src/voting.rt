@@ -1,18 +1,18 @@
 //! Votes: what a node has to vote by what it knows, and to whom.
-//! Cited by arrivals.rt, deciding.rt, joining.rt.
+//! Cited by kt_node.
 
 ghost use Rattle.std.specs.Prelude.{◌≡◌, ◌++◌, IfOk, OnOk};
-ghost use Rattle.kt_node.specs.Voting.{casting, poll_after, vote_for, votes};
+ghost use Rattle.kt_state.specs.Voting.{casting, poll_after, vote_for, votes};
 
+use crate::message::Message;
 use crate::plan::Outbox;
-use kt_state::Message;
 use kt_tuple::NodeId;
 use kt_vote::{Asker, Ballot, Vote};
 use std::alloc::{AllocError, Global};
 
 /// The vote that answers an ask. It repeats the asker's incarnation, not its own: the vote comes when the ask is long
 /// gone, and the asker may have begun another life since (docs/DECISIONS.md#ballots).
-pub(crate) fn vote_for(instance: u64, asker: Asker, yes: bool) -> (NodeId, Vote)
+pub fn vote_for(instance: u64, asker: Asker, yes: bool) -> (NodeId, Vote)
     ensures { result ≡ vote_for instance asker yes }
 {
     let vote = Vote {
@@ -24,7 +24,7 @@ pub(crate) fn vote_for(instance: u64, asker: Asker, yes: bool) -> (NodeId, Vote)
 }
 
 /// The vote that the node has to cast now, if it has to; then it has voted.
-pub(crate) fn cast(ballot: &mut Ballot) -> Option<(NodeId, Vote)>
+pub fn cast(ballot: &mut Ballot) -> Option<(NodeId, Vote)>
     ensures vote { result ≡ casting ballot.old }
     ensures voted { ballot.new ≡ poll_after ballot.old (casting ballot.old) }
 {
@@ -42,7 +42,7 @@ pub(crate) fn cast(ballot: &mut Ballot) -> Option<(NodeId, Vote)>
 }
 
 /// The message of a vote alone.
-pub(crate) fn vote_alone(alloc: Global, vote: Option<(NodeId, Vote)>) -> Result<Outbox, AllocError>
+pub fn vote_alone(alloc: Global, vote: Option<(NodeId, Vote)>) -> Result<Outbox, AllocError>
     ensures { IfOk result (λ b. b ≡ votes vote) }
 {
     match vote {
@@ -52,7 +52,7 @@ pub(crate) fn vote_alone(alloc: Global, vote: Option<(NodeId, Vote)>) -> Result<
 }
 
 /// The message of a vote behind others.
-pub(crate) fn add_vote(send: &mut Outbox, vote: Option<(NodeId, Vote)>) -> Result<(), AllocError>
+pub fn add_vote(send: &mut Outbox, vote: Option<(NodeId, Vote)>) -> Result<(), AllocError>
     ensures { OnOk result (send.new ≡ send.old ++ votes vote) }
 {
     if let Some((to, vote)) = vote {

@@ -1,16 +1,19 @@
 //! What a node asks of others.
-//! Cited by failing.rt, joining.rt.
+//! Cited by kt_node.
 
 ghost use Rattle.std.specs.Prelude.{◌≡◌, IfOk};
-ghost use Rattle.kt_node.specs.Joining.{check_ask, check_asks, roll_ask, roll_asks};
+ghost use Rattle.kt_state.specs.Asking.{check_ask, check_asks, roll_ask, roll_asks};
 ghost use Rattle.kt_state.specs.Node.{node_number};
 ghost use Rattle.kt_state.specs.Codes.{live_view};
-ghost use Rattle.kt_node.specs.auxiliary.Codes.{sent_view};
+ghost use Rattle.kt_state.specs.Asking.{sent_view};
 
+use crate::labels::label_at;
+use crate::live::Live;
+use crate::message::{Ask, Message};
 use crate::plan::Outbox;
+use crate::stored::sent_in;
 use kt_ckpt::CkptHeader;
 use kt_link::Label;
-use kt_state::{Ask, Live, Message, label_at, sent_in};
 use kt_tuple::NodeId;
 use std::alloc::{AllocError, Global};
 
@@ -27,7 +30,7 @@ fn check_ask(instance: u64, live: &Live, node: NodeId) -> (NodeId, Message)
 }
 
 /// Each of these is asked to take a checkpoint.
-pub(crate) fn check_asks(
+pub fn check_asks(
     alloc: Global,
     instance: u64,
     live: &Live,
@@ -45,7 +48,7 @@ pub(crate) fn check_asks(
 
 /// Where the last labels stand that were sent before the permanent checkpoint.
 #[derive(Clone, Copy, Debug)]
-pub(crate) enum Sent<'a> {
+pub enum Sent<'a> {
     /// In the header of the checkpoint, if there is one.
     CkptHeader(Option<&'a CkptHeader>),
     /// In the table of the node that was loaded from it.
@@ -77,7 +80,7 @@ fn roll_ask(instance: u64, incarnation: u64, label: Label, node: NodeId) -> (Nod
 }
 
 /// Each of these is asked to roll back, with the last label sent to it before the permanent checkpoint.
-pub(crate) fn roll_asks(
+pub fn roll_asks(
     alloc: Global,
     instance: u64,
     incarnation: u64,

@@ -1,14 +1,14 @@
 //! What a step does, found out before anything is changed.
-//! Cited by app_messages.rt, arrivals.rt, asking.rt, deciding.rt, failing.rt, hearing.rt, joining.rt, learning.rt,
-//!   steps.rt, talking.rt, voting.rt; kt_core.
+//! Cited by asking.rt, voting.rt; kt_core, kt_node.
 
 ghost use Rattle.std.specs.Prelude.{◌≡◌, [], ◌∷◌, ◌++◌, IfOk, None, OnOk, Some};
-ghost use Rattle.kt_node.specs.Plan.{empty_plan};
+ghost use Rattle.kt_state.specs.Plan.{empty_plan};
 ghost use Rattle.kt_state.specs.declared.change.Change.TheVariants as changes;
 
+use crate::change::{Change, Update};
+use crate::message::Message;
 use kt_ckpt::Ckpt;
 use kt_history::Note;
-use kt_state::{Change, Message, Update};
 use kt_tuple::NodeId;
 use std::alloc::{AllocError, Global};
 use std::marker::Model;
@@ -50,7 +50,7 @@ impl Model for Outbox {
 
 impl Outbox {
     /// The outbox of a plan that sends nothing. It takes no memory.
-    pub(crate) fn empty(alloc: Global) -> Outbox
+    pub fn empty(alloc: Global) -> Outbox
         ensures { result ≡ [] }
     {
         Outbox {
@@ -59,7 +59,7 @@ impl Outbox {
     }
 
     /// The outbox of a plan that sends one message; refused only for want of memory.
-    pub(crate) fn one(alloc: Global, to: NodeId, message: Message) -> Result<Outbox, AllocError>
+    pub fn one(alloc: Global, to: NodeId, message: Message) -> Result<Outbox, AllocError>
         ensures { IfOk result (λ b. b ≡ (to, message) ∷ []) }
     {
         let mut outbox = Outbox::empty(alloc);
@@ -68,7 +68,7 @@ impl Outbox {
     }
 
     /// Puts one message more behind the others; refused only for want of memory.
-    pub(crate) fn add(&mut self, to: NodeId, message: Message) -> Result<(), AllocError>
+    pub fn add(&mut self, to: NodeId, message: Message) -> Result<(), AllocError>
         ensures { OnOk result (self.new ≡ self.old ++ (to, message) ∷ []) }
     {
         Ok(self.messages.push((to, message))?)
@@ -105,7 +105,7 @@ pub struct Plan {
 
 impl Plan {
     /// Nothing is done: a message is dropped.
-    pub(crate) fn empty(alloc: Global) -> Plan
+    pub fn empty(alloc: Global) -> Plan
         ensures { result ≡ empty_plan }
     {
         Plan {
@@ -117,7 +117,7 @@ impl Plan {
     }
 
     /// The node goes on with this update and sends these; this is noted.
-    pub(crate) fn of(
+    pub fn of(
         alloc: Global,
         update: Update,
         send: Outbox,
@@ -135,7 +135,7 @@ impl Plan {
     }
 
     /// The plan of this change, which sends these and has the store write; it makes no note.
-    pub(crate) fn writing(change: Change, send: Outbox, write: Write) -> Plan
+    pub fn writing(change: Change, send: Outbox, write: Write) -> Plan
         ensures { result ≡ record { change = change; send = send; note = None; write = Some write } }
     {
         Plan {
