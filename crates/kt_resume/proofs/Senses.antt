@@ -199,7 +199,8 @@ caused-none h = record { caused = λ n a on is. absurd (Contains-none n on) }
 pub caused-more : (h : List Note) (numbers : List ℕ) (i : ℕ) → i < length numbers → AreCaused h (take i numbers)
     → ((a : Act) → act_of (note_at h (get_or numbers i 0)) ≡ Some a → CauseFits h a a.what) → AreCaused h (take (i + 1) numbers)
 caused-more h numbers i lt before here = record {
-  caused = λ n a on is. elim (Contains-push_cases (take i numbers) (get_or numbers i 0) n (subst (λ (l : List ℕ). Contains l n) (take_more numbers i 0 lt) on)) [
+  caused = λ n a on is. elim (Contains-push_cases (take i numbers) (get_or numbers i 0) n
+      (subst (λ (l : List ℕ). Contains l n) (take_more numbers i 0 lt) on)) [
     | inl old ↦ before.caused n a old is
     | inr new ↦ here a (ap (λ k. act_of (note_at h k)) new ∙ ap act_of is)
   ];
