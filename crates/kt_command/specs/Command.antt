@@ -39,9 +39,10 @@ command_of word is_resumed has_journal =
     else if is_word word (codes "run") then Some (Run (start_of is_resumed) (output_of has_journal))
     else None
 
--- what a program is asked to do: a command, over the store in a file or in memory; or to carry the store in a file over
+-- what a program is asked to do: a command, over the store in a file or in memory, with its fault explained or not; or
+-- to carry the store in a file over
 pub data Asked : Type 0 where
-  Makes : Command → Option Text → Asked
+  Makes : Command → Option Text → (is_explained : Bool) → Asked
   Carries : Text → Asked
 
 -- the texts behind references

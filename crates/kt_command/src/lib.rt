@@ -13,6 +13,7 @@
 mod carries;
 mod carrying;
 mod command;
+mod explainer;
 mod opens;
 mod request;
 mod running;
@@ -22,6 +23,7 @@ mod words;
 pub use carries::Carries;
 pub use carrying::carry_over;
 pub use command::Command;
+pub use explainer::{Explained, Explainer};
 pub use opens::Opens;
 pub use request::{Request, run_request};
 pub use running::{run_in_memory, run_returning_store};

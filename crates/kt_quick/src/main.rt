@@ -12,6 +12,7 @@ mod program;
 
 use kt_scene::{Sink, Source};
 use std::env;
+use std::io::IsTerminal;
 use std::process::ExitCode;
 
 fn main(rt: HostRuntime) -> ExitCode {
@@ -19,6 +20,7 @@ fn main(rt: HostRuntime) -> ExitCode {
     let mut reader = Source::new(rt.stdin());
     let mut writer = Sink::new(rt.stdout());
     let mut errors = rt.stderr();
+    let is_watched = errors.is_terminal();
     let status = program::run_arguments(
         &rt,
         rt.alloc(),
@@ -26,6 +28,7 @@ fn main(rt: HostRuntime) -> ExitCode {
         &mut reader,
         &mut writer,
         &mut errors,
+        is_watched,
     );
     ExitCode::from(status)
 }

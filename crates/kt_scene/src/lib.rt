@@ -12,6 +12,7 @@
 mod fault;
 mod journal;
 mod laws;
+mod observer;
 mod replaying;
 mod report;
 mod sink;
@@ -25,6 +26,7 @@ pub use kt_text::{
     MAX_TEXT, Scenario, SceneError, SceneFault, Work, WorkKind, read_scene, write_scene,
 };
 pub use laws::{a_state_has_one_report, what_a_journal_tells_is_read};
+pub use observer::{Nobody, Observer};
 pub use replaying::{
     replay, replay_returning_store, replay_world, report_returning_store, resume_replay,
 };

@@ -24,6 +24,7 @@ mod words;
 use crate::files::Files;
 use kt_scene::{Sink, Source};
 use std::env;
+use std::io::IsTerminal;
 use std::process::ExitCode;
 
 fn main(rt: HostRuntime) -> ExitCode {
@@ -31,6 +32,7 @@ fn main(rt: HostRuntime) -> ExitCode {
     let mut reader = Source::new(rt.stdin());
     let mut writer = Sink::new(rt.stdout());
     let mut errors = rt.stderr();
+    let is_watched = errors.is_terminal();
     // The runtime twice: by the first a file is opened, by the second threads are started.
     let status = program::run_arguments(
         Files::new(&rt),
@@ -40,6 +42,7 @@ fn main(rt: HostRuntime) -> ExitCode {
         &mut reader,
         &mut writer,
         &mut errors,
+        is_watched,
     );
     ExitCode::from(status)
 }
