@@ -265,9 +265,10 @@ fn opens_once(rt: HostRuntime) -> Result<(), Fail> {
             asked: &asked,
         };
         let in_memory = match request {
-            Request::Make { command, store: _ } => Request::Make {
+            Request::Make { command, .. } => Request::Make {
                 command,
                 store: None,
+                is_explained: false,
             },
             Request::Migrate { store: _ } => return Err(Fail::from("a command")),
         };
