@@ -2,11 +2,11 @@
 //! Cited by request.rt, running.rt; kt_quick, linda_kt.
 
 ghost use Rattle.std.specs.Prelude.{◌≡◌, ◌≢◌};
-ghost use Rattle.kt_command.specs.declared.explainer.Explained.{Explained as HowMuch};
 
 use crate::status::DONE;
 use kt_core::{Step, World};
-use kt_explain::{explain_fault, explain_step, explain_text, explain_unopened};
+use kt_explain::explain_text;
+use kt_reasons::{explain_fault, explain_step, explain_unopened};
 use kt_run::RunTextFault;
 use kt_scene::{Observer, ReplayFault, SceneFault, WorkKind};
 use kt_stage::RunFault;
@@ -30,7 +30,7 @@ pub enum Explained {
 pub struct Explainer {
     much: Explained,
     /// What is to be said.
-    words: String,
+    words: Vec<u8>,
 }
 
 impl Explainer {
@@ -40,12 +40,12 @@ impl Explainer {
     {
         Explainer {
             much,
-            words: String::new(alloc),
+            words: Vec::new(alloc),
         }
     }
 
     /// Keeps what explains a fault, where there was memory for it.
-    fn keep(&mut self, words: Result<String, AllocError>)
+    fn keep(&mut self, words: Result<Vec<u8>, AllocError>)
         ensures { self.new.much ≡ self.old.much }
     {
         if let Ok(words) = words {
@@ -99,7 +99,7 @@ impl Explainer {
     {
         if status != DONE && self.much == Explained::Faults {
             // A standard error that is closed leaves the status alone to tell.
-            let _ = errors.write_all(self.words.as_bytes());
+            let _ = errors.write_all(&self.words);
         }
     }
 }

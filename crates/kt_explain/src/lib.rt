@@ -1,15 +1,40 @@
-//! Why a program refused what it was given, in words.
+//! What is wrong with a scenario's text, said in words, and what each number and name that is printed means.
+//!
+//! - Contract: of want of memory `explain_text` says nothing (clause `memory`). What `nearest` gives is one of the words
+//!   that were handed in (clause `member`). What an answer says is tested and not proved.
+//! - Stands on: kt_tuple, kt_script, kt_scenario, kt_text; of the kit: strsim
+//! - Used by: none yet
+//! - Begin in: `explain.rt`, which goes by the fault, then `part.rt` for where a line stands. `reason.rt` has what is
+//!   said, and the other files find which of it is meant.
 #![tactic(auto)]
 
-mod faults;
-mod missing;
-mod names;
-mod reasons;
-mod refused;
-mod texts;
+mod case;
+mod command_form;
+mod ending;
+mod explain;
+mod fault_word;
+mod finding;
+mod header;
+mod limit;
+mod meaning;
+mod meaning_table;
+mod name;
+mod near;
+mod node;
+mod part;
+mod place;
+mod reason;
+mod script_word;
+mod shown;
+mod spacing;
+mod step_word;
 #[cfg(test)]
 mod tests;
+mod tuple;
+mod variable;
+mod words;
 
-pub use faults::{explain_fault, explain_unopened};
-pub use texts::explain_text;
-pub use refused::explain_step;
+pub use explain::explain_text;
+pub use meaning::{Meaning, MeaningKind, explain_number, meanings};
+pub use near::nearest;
+pub use part::{Part, part_of};

@@ -1,59 +1,269 @@
-//! Steps that a world refuses, with what is said of them.
+//! Mistakes that people make, and all that is said of each; the numbers are those of a list of them that was gathered.
+mod heads;
+mod scripts;
+mod tuples;
+mod work;
 
-use crate::explain_step;
-use kt_core::World;
-use kt_store::MemStore;
-use kt_text::{WorkKind, read_scene};
+use crate::tests::heads::{BEHIND_END, IN_SHARDS, IN_TITLE, IN_WORKERS};
+use crate::tests::scripts::{IN_JOURNAL, IN_NAMES, IN_RESUMED, IN_SCRIPT, IN_SCRIPT_OF_RUN};
+use crate::tests::tuples::IN_TUPLES;
+use crate::tests::work::{IN_FAULTS, IN_MORE_NODES, IN_STEPS};
+use crate::{Part, explain_number, explain_text, meanings, nearest, part_of};
+use kt_text::{MAX_TEXT, SceneError, SceneFault, WorkKind, read_scene};
+use kt_tuple::writing::push_number;
+use std::alloc::Global;
+use std::process::Abort;
 use std::test::Fail;
 
-/// One worker that puts and takes at one shard, and a second that takes at once.
-const SCENE: &str = "linda-kt 1\nshards 1\nworker\nout (\"a\", 1)\nin (\"a\", ?int x)\nworker\nin (\"b\", ?int x)\n# no step\nsteps\n";
+/// What the mistake is, the line that has it, and what is said of it.
+pub(crate) type Row = (&'static str, &'static str, &'static str);
 
-/// The steps before the one that is refused, that one, and what is said.
-const ROWS: [(&str, &str, &str); 14] = [
-    ("", "issue w3", "there is no w3: the scene has w1 to w2 and s1"),
-    ("", "issue s1", "s1 is a shard, and only a worker asks"),
-    ("", "deliver w1 w1", "messages go between a worker and a shard, and w1 and w1 are no such pair"),
-    ("issue w1\ndeliver w1 s1\n", "serve w1 s1 0",
-        "a shard serves a worker: `serve SHARD WORKER PLACE`, and here stand w1 and s1"),
-    ("issue w1\n", "serve s1 w1 0",
-        "w1 does not wait at s1: on the link from w1 to s1 is 1 message still, so `deliver w1 s1` comes first"),
-    ("issue w1\n", "deliver s1 w1",
-        "no message is on the link from s1 to w1; the other way, 1 message: `deliver w1 s1`"),
-    ("", "serve s1 w1 0", "w1 does not wait at s1: it has asked nothing that is unanswered"),
-    ("issue w2\ndeliver w2 s1\n", "serve s1 w2 1",
-        "s1 has no tuple that matches for it, and the place 1 is counted from 0"),
-    ("issue w1\n", "issue w1", "request 1 of w1 is unanswered: it can be asked once more by `repeat w1`"),
-    ("", "learn w1", "w1 is up; a verdict is learnt by who was asked for a checkpoint or a rollback, and by who began a check"),
-    ("", "restart w1", "w1 is up; only a node restarts that has failed, or whose own rollback got No"),
-    ("fail w1\n", "issue w1", "w1 is down: it has failed and did not restart yet; only a node that is up does this"),
-    ("fail w1\nrestart w1\n", "decide w1", "w1 awaits the votes of s1"),
-    ("check s1\nfail s1\n", "restart s1",
-        "s1 began an instance that is open, or holds a tentative checkpoint: `abandon s1` or `learn s1` comes first"),
+/// What stands above the lines, the kind of work that is wanted, and the mistakes.
+const TABLE: &[(&str, WorkKind, &[Row])] = &[
+    (
+        "",
+        WorkKind::Steps,
+        IN_TITLE,
+    ),
+    (
+        "linda-kt 1\n",
+        WorkKind::Steps,
+        IN_SHARDS,
+    ),
+    (
+        "linda-kt 1\nshards 1\n",
+        WorkKind::Steps,
+        IN_WORKERS,
+    ),
+    (
+        "linda-kt 1\nshards 1\nworker\nsteps\nend\n",
+        WorkKind::Steps,
+        BEHIND_END,
+    ),
+    (
+        "linda-kt 1\nshards 1\nworker\nout (\"a\", 1)\nin (\"a\", ?int x)\n",
+        WorkKind::Steps,
+        IN_SCRIPT,
+    ),
+    (
+        "linda-kt 1\nshards 1\nworker\nout (\"a\", 1)\nin (\"a\", ?int x)\n",
+        WorkKind::Faults,
+        IN_SCRIPT_OF_RUN,
+    ),
+    (
+        "# survivors 0\n# lost 0\n# space 0\n# permanent 0\nlinda-kt 1\nshards 1\nworker\nout (\"a\", 1)\n",
+        WorkKind::Faults,
+        IN_JOURNAL,
+    ),
+    (
+        "# resumed after instance 2\n# survivors 0\nlinda-kt 1\nshards 1\nworker\n",
+        WorkKind::Faults,
+        IN_RESUMED,
+    ),
+    (
+        "linda-kt 1\nshards 1\nworker\nin (?int n, ?str s, ?bool b)\nset m = n + 1\n# a remark\n",
+        WorkKind::Steps,
+        IN_NAMES,
+    ),
+    (
+        "linda-kt 1\nshards 1\nworker\n",
+        WorkKind::Steps,
+        IN_TUPLES,
+    ),
+    (
+        "linda-kt 1\nshards 1\nworker\nout (\"a\", 1)\nin (\"a\", ?int x)\nsteps\n",
+        WorkKind::Steps,
+        IN_STEPS,
+    ),
+    (
+        "linda-kt 1\nshards 1\nworker\nout (\"a\", 1)\nin (\"a\", ?int x)\nfaults\n",
+        WorkKind::Faults,
+        IN_FAULTS,
+    ),
+    (
+        "# three\nlinda-kt 1\nshards 3\nworker\nworker\nfaults\n",
+        WorkKind::Faults,
+        IN_MORE_NODES,
+    ),
 ];
 
 #[test]
-fn steps_that_are_refused(rt: HostRuntime) -> Result<(), Fail> {
-    let alloc = rt.alloc();
-    for (before, refused, expected) in ROWS {
-        let text = format!(in alloc; "{SCENE}{before}{refused}\nend\n")?;
-        let scenario = read_scene(alloc, text.as_bytes(), WorkKind::Steps)?;
-        let steps = scenario.work.steps();
-        let opened = World::open(alloc, scenario.scene, MemStore::new(alloc));
-        let mut world = opened.ok().ok_or("a world")?;
-        let mut at = 0usize;
-        let mut said = None;
-        for step in steps {
-            at = at.saturating_add(1);
-            if let Err(cause) = world.step(alloc, *step) {
-                said = Some(explain_step(alloc, text.as_bytes(), &world, steps, at, cause)?);
-                break;
-            }
-        }
-        let said = said.ok_or("a step that is refused")?;
-        let number = at.saturating_add(9);
-        let wanted = format!(in alloc; "  line {number}: {refused}\n  {expected}\n")?;
-        assert_eq!(rt; said.as_str(), wanted.as_str());
+fn each_mistake_is_named(rt: HostRuntime) -> Result<(), Fail> {
+    for (above, kind, rows) in TABLE {
+        assert_said(&rt, rt.alloc(), above, *kind, rows)?;
     }
+    Ok(())
+}
+
+/// Of each line below this text it is said what its row says.
+fn assert_said(
+    rt: &impl Abort,
+    alloc: Global,
+    above: &str,
+    kind: WorkKind,
+    rows: &[Row],
+) -> Result<(), Fail> {
+    for (name, line, expected) in rows {
+        let mut text = String::from_str(alloc, above)?;
+        text.push_str(line)?;
+        let said = said_of(rt, alloc, text.as_bytes(), kind)?;
+        assert_eq!(rt; said.as_str(), *expected, "{name}");
+    }
+    Ok(())
+}
+
+/// What is said of the text, which is no scenario of this kind.
+fn said_of(
+    rt: &impl Abort,
+    alloc: Global,
+    text: &[u8],
+    kind: WorkKind,
+) -> Result<String, Fail> {
+    match read_scene(alloc, text, kind) {
+        Ok(_) => {
+            assert!(rt; false, "no fault");
+            Ok(String::new(alloc))
+        }
+        Err(fault) => {
+            let said = explain_text(alloc, text, kind, fault)?;
+            Ok(String::from_str(alloc, str::from_utf8(&said)?)?)
+        }
+    }
+}
+
+/// A line so often.
+fn push_often(text: &mut Vec<u8>, line: &[u8], count: usize) -> Result<(), Fail> {
+    for _ in 0..count {
+        text.extend_from_slice(line)?;
+    }
+    Ok(())
+}
+
+#[test]
+fn what_is_too_many_is_named(rt: HostRuntime) -> Result<(), Fail> {
+    let alloc = rt.alloc();
+    let rows: [(&[u8], usize, &str); 2] = [
+        (
+            b"worker\n",
+            17,
+            "  worker\n  ^\n  a scenario has at most 16 workers: take one away\n",
+        ),
+        (
+            b"out (1)\n",
+            201,
+            "  out (1)\n  ^\n  a script has at most 200 commands: take some away\n",
+        ),
+    ];
+    for (line, count, expected) in rows {
+        let mut text = Vec::from_slice(alloc, b"linda-kt 1\nshards 1\nworker\n")?;
+        push_often(&mut text, line, count)?;
+        let said = said_of(&rt, alloc, &text, WorkKind::Steps)?;
+        assert_eq!(rt; said.as_str(), expected);
+    }
+    Ok(())
+}
+
+#[test]
+fn a_name_too_many_is_named(rt: HostRuntime) -> Result<(), Fail> {
+    let alloc = rt.alloc();
+    let mut text = Vec::from_slice(alloc, b"linda-kt 1\nshards 1\nworker\n")?;
+    for number in 0..65 {
+        text.extend_from_slice(b"in (?int x")?;
+        push_number(&mut text, number)?;
+        text.extend_from_slice(b")\n")?;
+    }
+    let said = said_of(&rt, alloc, &text, WorkKind::Steps)?;
+    let expected =
+        "  in (?int x64)\n  ^\n  a script has at most 64 names: use one again\n";
+    assert_eq!(rt; said.as_str(), expected);
+    Ok(())
+}
+
+#[test]
+fn a_text_too_long_is_named(rt: HostRuntime) -> Result<(), Fail> {
+    let alloc = rt.alloc();
+    let mut text = Vec::from_slice(alloc, b"linda-kt 1\nshards 1\nworker\n")?;
+    push_often(&mut text, b"# a remark\n", MAX_TEXT / 10)?;
+    let said = said_of(&rt, alloc, &text, WorkKind::Steps)?;
+    assert_eq!(rt; said.as_str(), "  the text has more than 1048576 bytes: make it shorter\n");
+    Ok(())
+}
+
+/// Faults that the text has not: a line that is not there, and a cause that no such line has.
+const UNFIT: &[(usize, SceneError)] = &[
+    (0, SceneError::Word),
+    (9, SceneError::Word),
+    (7, SceneError::Tuple),
+    (3, SceneError::Header),
+    (3, SceneError::Tuple),
+    (3, SceneError::Node),
+    (4, SceneError::Variable),
+    (4, SceneError::OutOfMemory),
+];
+
+#[test]
+fn nothing_is_said_of_what_does_not_fit(rt: HostRuntime) -> Result<(), Fail> {
+    let text = b"linda-kt 1\nshards 1\nworker\nout (1)\nsteps\nend\n";
+    for (line, cause) in UNFIT {
+        let fault = SceneFault {
+            line: *line,
+            cause: *cause,
+        };
+        let said = explain_text(rt.alloc(), text, WorkKind::Steps, fault)?;
+        assert!(rt; said.is_empty(), "line {line}");
+    }
+    Ok(())
+}
+
+#[test]
+fn each_line_has_its_part(rt: HostRuntime) -> Result<(), Fail> {
+    let text =
+        b"# a\nlinda-kt 1\nshards 1\nworker\nout (1)\nsteps\nissue w1\nend\n";
+    let parts = [
+        Part::Title,
+        Part::Title,
+        Part::Shards,
+        Part::Workers,
+        Part::Scripts,
+        Part::Scripts,
+        Part::Steps,
+        Part::Steps,
+        Part::Ended,
+        Part::Ended,
+    ];
+    for (before, part) in parts.into_iter().enumerate() {
+        assert!(rt; part_of(text, before.saturating_add(1)) == part, "behind {before}");
+    }
+    assert!(rt; part_of(b"linda-kt 1\nshards 1\nworker\nfaults\n", 5) == Part::Faults);
+    Ok(())
+}
+
+#[test]
+fn the_nearest_word_is_found(rt: HostRuntime) -> Result<(), Fail> {
+    let words = ["fail", "check", "end"];
+    let rows: [(&[u8], Option<&str>); 6] = [
+        (b"fial", Some("fail")),
+        (b"CHECK", Some("check")),
+        (b"en", Some("end")),
+        (b"ed", Some("end")),
+        (b"e", None),
+        (b"crash", None),
+    ];
+    for (word, expected) in rows {
+        let found = nearest(rt.alloc(), word, &words)?;
+        assert!(rt; found == expected);
+    }
+    Ok(())
+}
+
+#[test]
+fn all_meanings_of_a_number_are_told(rt: HostRuntime) -> Result<(), Fail> {
+    let said = explain_number(rt.alloc(), 8)?;
+    assert_eq!(rt; str::from_utf8(&said)?, "fault 8 OutOfMemory: memory ran out while the scenario was read\n\
+refusal 8 Store: a call of the store was refused\n\
+status 8: there are more steps than can be made at once\n");
+    assert!(rt; explain_number(rt.alloc(), 1)?.len() > 0);
+    assert!(rt; explain_number(rt.alloc(), 10)?.is_empty());
+    assert!(rt; meanings().iter().all(|meaning| !meaning.text.is_empty()));
     Ok(())
 }

@@ -8,11 +8,12 @@ use std::alloc::{AllocError, Global};
 use std::fmt::Write;
 
 /// Why a store is not what a command can begin with.
-const NOT_FRESH: &str = "the store holds what an earlier command left: name another file, or go on from it by `resume` or `run --resume`";
+const NOT_FRESH: &str =
+    "the store holds what an earlier command left: name another file, or go on from it by `resume` or `run --resume`";
 
 /// What the fault means and what to do, on a line that begins with two spaces. Nothing of a fault that has a line of the
 /// text: `explain_text` and `explain_step` explain that.
-pub fn explain_fault(alloc: Global, fault: ReplayFault) -> Result<String, AllocError> {
+pub fn explain_fault(alloc: Global, fault: ReplayFault) -> Result<Vec<u8>, AllocError> {
     let mut out = String::new(alloc);
     match fault {
         ReplayFault::Open(OpenError::NotFresh) => writeln!(out, "  {NOT_FRESH}")?,
@@ -46,7 +47,7 @@ pub fn explain_fault(alloc: Global, fault: ReplayFault) -> Result<String, AllocE
         | ReplayFault::Resume(ResumeError::OutOfMemory)
         | ReplayFault::Memory => {}
     }
-    Ok(out)
+    Ok(out.into_bytes())
 }
 
 /// Why no store was opened at the path, by the name of the refusal as the program prints it.
@@ -56,7 +57,9 @@ fn why_not_opened(name: &str) -> Option<&'static str> {
         "Device" => Some(
             "it could not be opened or made: is it a folder, is there no such folder, or may it not be written?",
         ),
-        "Damaged" => Some("it is there and is no store of this program: name a file that is not there yet"),
+        "Damaged" => Some(
+            "it is there and is no store of this program: name a file that is not there yet",
+        ),
         "Version" => Some(
             "it is a store of version 1 that holds something: carry it over by `migrate` with the journal that made it",
         ),
@@ -67,7 +70,7 @@ fn why_not_opened(name: &str) -> Option<&'static str> {
 
 /// Why no store was opened at the path, and what to do, on a line that begins with two spaces. The refusal is named as
 /// the program prints it: `Memory`, `Device`, `Damaged`, `Version` or `Mismatch`; of any other nothing is said.
-pub fn explain_unopened(alloc: Global, path: &str, name: &str) -> Result<String, AllocError> {
+pub fn explain_unopened(alloc: Global, path: &str, name: &str) -> Result<Vec<u8>, AllocError> {
     let mut out = String::new(alloc);
     if path.is_empty() {
         out.push_str("  the name of the file is empty: write `--store FILE`\n")?;
@@ -76,5 +79,5 @@ pub fn explain_unopened(alloc: Global, path: &str, name: &str) -> Result<String,
     } else if let Some(why) = why_not_opened(name) {
         writeln!(out, "  {path}: {why}")?;
     }
-    Ok(out)
+    Ok(out.into_bytes())
 }

@@ -48,18 +48,18 @@ pub fn explain_step<S: CkptStore>(
     steps: &[Step],
     at: usize,
     cause: StepError,
-) -> Result<String, AllocError> {
+) -> Result<Vec<u8>, AllocError> {
     let mut out = String::new(alloc);
     let step = steps.get(at.saturating_sub(1));
     let (Some(step), Some((number, line))) = (step, line_of_step(text, at)) else {
-        return Ok(out);
+        return Ok(out.into_bytes());
     };
     if cause == StepError::OutOfMemory {
-        return Ok(out);
+        return Ok(out.into_bytes());
     }
     let line = str::from_utf8(line).unwrap_or("");
     write!(out, "  line {number}: {line}\n  ")?;
     push_reason(&mut out, world, *step, cause)?;
     out.push('\n')?;
-    Ok(out)
+    Ok(out.into_bytes())
 }

@@ -70,7 +70,10 @@ fn push_no_node(out: &mut String, scene: &Scene, step: Step) -> Result<(), Alloc
             Names::workers(scene.scripts().len()),
             Names::shards(usize::from(scene.shards())),
         );
-        return write!(out, "there is no {node}: the scene has {workers} and {shards}");
+        return write!(
+            out,
+            "there is no {node}: the scene has {workers} and {shards}"
+        );
     }
     let owner = Name(step.owner());
     match step {
@@ -187,7 +190,10 @@ fn push_undecided<S: CkptStore>(
     };
     if ballot.parent().is_some() {
         let instance = ballot.instance();
-        return write!(out, "instance {instance}, in which {name} takes part, has no verdict yet");
+        return write!(
+            out,
+            "instance {instance}, in which {name} takes part, has no verdict yet"
+        );
     }
     write!(out, "{name} awaits the votes of")?;
     for node in ALL_NODES {

@@ -31,7 +31,10 @@ pub(crate) fn push_missing<S: CkptStore>(
         ),
         Step::Learn { .. } => write!(out, "{owner} holds no tentative checkpoint"),
         Step::Check { .. } | Step::Fail { .. } | Step::Restart { .. } => {
-            write!(out, "{owner} has nothing of which this step would make something")
+            write!(
+                out,
+                "{owner} has nothing of which this step would make something"
+            )
         }
     }
 }
@@ -45,7 +48,10 @@ fn push_nothing_to_ask<S: CkptStore>(
     let name = Name(node);
     if 0 < world.kept_len(node) {
         let count = Count::of_messages(world.kept_len(node));
-        return write!(out, "{name} keeps {count} back and hears those first: `take {name}`");
+        return write!(
+            out,
+            "{name} keeps {count} back and hears those first: `take {name}`"
+        );
     }
     match world.worker(node) {
         Some(worker) if worker.asked().is_some() => {
