@@ -1,5 +1,5 @@
 //! What is said beside the line of a fault: why it came, and what to do.
-//! Cited by request.rt, running.rt; kt_quick, linda_kt.
+//! Cited by carrying.rt, request.rt, running.rt; kt_quick; whoever calls the trait `Observer`.
 
 ghost use Rattle.std.specs.Prelude.{◌≡◌, ◌≢◌};
 
@@ -73,7 +73,10 @@ impl Explainer {
             Err(RunTextFault::Text(fault)) => fault,
             Err(RunTextFault::Run(RunFault::Open(cause))) => ReplayFault::Open(cause),
             Err(RunTextFault::Run(RunFault::Resume(cause))) => ReplayFault::Resume(cause),
-            Err(RunTextFault::Run(RunFault::Step { at: _, cause })) => ReplayFault::Step { at: 0, cause },
+            Err(RunTextFault::Run(RunFault::Step { at: _, cause })) => ReplayFault::Step {
+                at: 0,
+                cause,
+            },
             Err(RunTextFault::Run(_)) => return,
         };
         self.explain_replay(alloc, Err(fault));

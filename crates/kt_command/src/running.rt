@@ -40,7 +40,9 @@ pub fn run_returning_store<
 {
     match command {
         Command::Replay(start) => {
-            let (answer, left) = replay_returning_store(alloc, start, reader, writer, store, explainer);
+            let (answer, left) = replay_returning_store(
+                alloc, start, reader, writer, store, explainer,
+            );
             explainer.explain_replay(alloc, answer);
             (end_replay(answer, errors), left)
         }

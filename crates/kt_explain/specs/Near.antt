@@ -1,5 +1,5 @@
 -- Which word is near to one that is misspelt.
--- Cited by near.rt, `near::nearest_among`.
+-- Cited by Nearer, near.rt, `near::nearest_below`.
 use Rattle.std.specs.Prelude.{ℕ, ◌≤◌, List, length, nat_eq, All, Contains}
 use Rattle.strsim.specs.Edits.{levenshtein_row}
 

@@ -1,5 +1,5 @@
 -- Where in a scenario a line stands.
--- Cited by part.rt, `part::part_of`.
+-- Cited by Parts, part.rt, `part::part_of`.
 use Rattle.std.specs.Prelude.{ℕ, zero, suc, ◌-◌, List, [], ◌∷◌, codes, if◌then◌else◌}
 use Rattle.kt_text.specs.Lines.{is_ignored, is_word}
 use Rattle.kt_text.specs.Reading.{lines_of}

@@ -1,5 +1,5 @@
 -- What is written: printable ASCII and line feeds.
--- Cited by shown.rt, explain.rt.
+-- Cited by explain.rt, shown.rt, `shown::push_shown`, `shown::push_widths`.
 use Rattle.std.specs.Int.{is_in_range}
 use Rattle.std.specs.List.{list_all}
 use Rattle.std.specs.Prelude.{ℕ, Bool, List, ◌==◌, ◌||◌, IsTrue}

@@ -1,4 +1,5 @@
 //! A line that has a fault, with what stands above it.
+//! Cited by ending.rt, explain.rt, fault_word.rt, header.rt, limit.rt, script_word.rt, step_word.rt, variable.rt.
 
 use crate::part::{Part, part_of};
 use kt_text::{WorkKind, line_at};
@@ -57,7 +58,9 @@ impl<'a> Above<'a> {
         }
         Above {
             shards: shards_of(line).unwrap_or(self.shards),
-            commands: self.commands.saturating_add(usize::from(line.first() != Some(&b'#'))),
+            commands: self
+                .commands
+                .saturating_add(usize::from(line.first() != Some(&b'#'))),
             script_lines: self.script_lines.saturating_add(1),
             ..self
         }

@@ -1,4 +1,5 @@
 //! The forms of commands.
+//! Cited by limit.rt.
 
 use crate::finding::Finding;
 use crate::name::name_in_front;
@@ -8,11 +9,15 @@ use kt_tuple::reading::{int_at, word_at};
 
 /// The form of `set`.
 const SET_FORM: Reason = Reason::Said("`set x = y + K` is the only form, K an int");
+
 const NO_CONSTANT: &str =
     "`set x = y + K` is the only form: no constant can be set, but `in` can bind one out of a tuple";
+
 const NO_MINUS: &str =
     "`set x = y + K` is the only form: for minus write `+ -`, as in `set x = x + -1`";
+
 const NO_PLUS: &str = "`set x = y + K` is the only form: write ` + 0` behind it where x is to be y";
+
 const SPACES: &str = "one space stands before and behind `+`, as in `set x = y + 1`";
 
 /// What is wrong with a command that begins with this word of a command, and goes on so.
@@ -31,7 +36,10 @@ pub(crate) fn finding<'a>(word: &[u8], rest: &'a [u8]) -> Finding<'a> {
             "a tuple or template is wanted here, as in `out (\"a\", 1)` and `in (\"a\", ?int)`",
         )
     } else {
-        Finding::said(rest, "one space stands between the word and `(`: put it here")
+        Finding::said(
+            rest,
+            "one space stands between the word and `(`: put it here",
+        )
     }
 }
 

@@ -1,4 +1,5 @@
 //! How a text ends.
+//! Cited by no other file of crates/.
 
 use crate::case::Case;
 use crate::finding::{Finding, from_first};

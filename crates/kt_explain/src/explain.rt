@@ -1,23 +1,15 @@
 //! A fault of a text, explained.
-//! Cited by no other file of crates/.
+//! Cited by kt_command.
 
 ghost use Rattle.std.specs.Prelude.{◌≡◌, [], IfOk, OnOk};
 ghost use Rattle.kt_explain.specs.Shown.{IsPlain};
 
 use crate::case::Case;
-use crate::ending;
-use crate::fault_word;
 use crate::finding::Finding;
-use crate::header;
-use crate::limit;
 use crate::part::Part;
 use crate::reason::{Limit, Reason};
-use crate::script_word;
 use crate::shown::{push_line, push_plain, push_shown};
-use crate::spacing;
-use crate::step_word;
-use crate::tuple;
-use crate::variable;
+use crate::{ending, fault_word, header, limit, script_word, spacing, step_word, tuple, variable};
 use kt_text::{MAX_TEXT, SceneError, SceneFault, WorkKind};
 use std::alloc::{AllocError, Global};
 
@@ -58,11 +50,7 @@ fn explain_length(alloc: Global, fault: SceneFault) -> Result<Vec<u8>, AllocErro
     Ok(out)
 }
 
-fn explain_case(
-    alloc: Global,
-    case: &Case<'_>,
-    cause: SceneError,
-) -> Result<Vec<u8>, AllocError>
+fn explain_case(alloc: Global, case: &Case<'_>, cause: SceneError) -> Result<Vec<u8>, AllocError>
     ensures { IfOk result (λ said. IsPlain said.items) }
 {
     let mut out = Vec::new(alloc);
@@ -125,10 +113,7 @@ fn finding_of_form<'a>(
 }
 
 /// Why no rule allows the line.
-fn finding_of_word<'a>(
-    alloc: Global,
-    case: &Case<'a>,
-) -> Result<Option<Finding<'a>>, AllocError> {
+fn finding_of_word<'a>(alloc: Global, case: &Case<'a>) -> Result<Option<Finding<'a>>, AllocError> {
     if let Some(finding) = spacing::finding(case.line) {
         return Ok(Some(finding));
     }

@@ -1,4 +1,5 @@
 //! Lines that no rule allows among fault lines.
+//! Cited by limit.rt.
 
 use crate::case::Case;
 use crate::finding::{Finding, word_in_front};

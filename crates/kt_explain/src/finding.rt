@@ -1,4 +1,6 @@
 //! What was found wrong in a line, and where.
+//! Cited by command_form.rt, ending.rt, explain.rt, fault_word.rt, header.rt, limit.rt, name.rt, node.rt,
+//!   script_word.rt, spacing.rt, step_word.rt, tuple.rt, variable.rt.
 
 use crate::reason::Reason;
 

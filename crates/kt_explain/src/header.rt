@@ -1,4 +1,5 @@
 //! The first two lines.
+//! Cited by ending.rt.
 
 use crate::case::Case;
 use crate::finding::{Finding, word_in_front};
@@ -26,10 +27,7 @@ fn in_title(alloc: Global, line: &[u8]) -> Result<Finding<'_>, AllocError> {
         return Ok(finding);
     }
     if let Ok(version) = word_at(line, b"linda-kt ") {
-        return Ok(Finding::said(
-            version,
-            "this program reads version 1: write `linda-kt 1`",
-        ));
+        return Ok(Finding::said(version, "this program reads version 1: write `linda-kt 1`"));
     }
     let (word, _) = word_in_front(line);
     if nearest(alloc, word, &["linda-kt"])?.is_some() {

@@ -1,4 +1,5 @@
 //! What each number and name that the program prints means.
+//! Cited by meaning_table.rt.
 
 use crate::meaning_table::MEANINGS;
 use kt_tuple::writing::push_number;

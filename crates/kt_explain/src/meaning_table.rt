@@ -1,4 +1,5 @@
 //! What each number and name means, as a table.
+//! Cited by meaning.rt.
 
 use crate::meaning::{Meaning, MeaningKind};
 

@@ -1,4 +1,5 @@
 //! Names of variables, read with what is wrong with them.
+//! Cited by command_form.rt, node.rt, place.rt, tuple.rt, variable.rt.
 
 use crate::finding::{Finding, from_first};
 use crate::reason::{Limit, Reason};
@@ -14,10 +15,7 @@ pub(crate) fn name_in_front(text: &[u8]) -> Result<(&[u8], &[u8]), Finding<'_>> 
         let rest = text
             .get(word.len().saturating_sub(wrong.len())..)
             .unwrap_or(text);
-        return Err(Finding::said(
-            rest,
-            "a name has small letters, digits and `_` alone",
-        ));
+        return Err(Finding::said(rest, "a name has small letters, digits and `_` alone"));
     }
     if word.len() > MAX_NAME {
         return Err(Finding::new(text, Reason::Limit(Limit::Name)));
@@ -38,9 +36,7 @@ fn reason_of_first(text: &[u8]) -> Option<Reason> {
         Some(b'A'..=b'Z' | b'0'..=b'9' | b'_') => {
             Some(Reason::Said("a name begins with a small letter, a to z"))
         }
-        Some(b' ') => Some(Reason::Said(
-            "one space is enough here: take this one away",
-        )),
+        Some(b' ') => Some(Reason::Said("one space is enough here: take this one away")),
         _ => Some(Reason::Said(
             "a name is wanted here: a small letter, then small letters, digits and `_`",
         )),

@@ -1,4 +1,5 @@
 //! Nodes and numbers, read with what is wrong with them.
+//! Cited by command_form.rt, fault_word.rt, step_word.rt.
 
 use crate::finding::Finding;
 use crate::name::letters_in_front;
@@ -6,7 +7,8 @@ use crate::reason::{Limit, Reason};
 use kt_tuple::reading::{int_at, int_of, word_at};
 use kt_tuple::{MAX_SHARDS, MAX_WORKERS};
 
-const FORM: &str = "a node is wanted here: `w1`, `w2` and so on are the workers, `s1`, `s2` and so on the shards";
+const FORM: &str =
+    "a node is wanted here: `w1`, `w2` and so on are the workers, `s1`, `s2` and so on the shards";
 
 /// The bytes behind the node that stands in front; or why there is none.
 pub(crate) fn behind_node(text: &[u8]) -> Result<&[u8], Finding<'_>> {
@@ -36,10 +38,7 @@ fn judge_number<'a>(text: &'a [u8], digits: &[u8], most: u8) -> Result<(), Findi
         ));
     }
     if digits.first() == Some(&b'0') {
-        return Err(Finding::said(
-            text,
-            "a node's number has no zeros in front, as in `w1`",
-        ));
+        return Err(Finding::said(text, "a node's number has no zeros in front, as in `w1`"));
     }
     match int_of(digits) {
         Some(number) if number <= i64::from(most) => Ok(()),

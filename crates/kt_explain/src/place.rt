@@ -1,4 +1,5 @@
 //! The places of a command that has no fault of its form.
+//! Cited by tuple.rt, variable.rt.
 
 use crate::name::letters_in_front;
 use kt_tuple::reading::{after_place, value_at, word_at};
@@ -82,7 +83,11 @@ pub(crate) fn next_place(behind: &[u8]) -> Option<&[u8]> {
 pub(crate) fn kind_in_line(line: &[u8], name: &[u8]) -> Option<Kind> {
     if let Ok(words) = word_at(line, b"set ") {
         let (variable, _) = letters_in_front(words);
-        return if variable == name { Some(Kind::Int) } else { None };
+        return if variable == name {
+            Some(Kind::Int)
+        } else {
+            None
+        };
     }
     let mut rest = word_at(behind_verb(line)?, b"(").ok()?;
     for _ in 0..MAX_PLACES {

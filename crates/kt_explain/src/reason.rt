@@ -1,4 +1,6 @@
 //! What is said of a mistake, each in one line.
+//! Cited by command_form.rt, ending.rt, explain.rt, fault_word.rt, finding.rt, header.rt, limit.rt, name.rt, node.rt,
+//!   script_word.rt, spacing.rt, step_word.rt, tuple.rt, variable.rt.
 
 use kt_scenario::MAX_STEPS;
 use kt_script::{MAX_COMMANDS, MAX_NAME, MAX_VARIABLES};
@@ -10,8 +12,9 @@ use std::alloc::{AllocError, Global};
 const MAX_MATCH: u64 = MAX_STEPS - 1;
 
 /// Of a remark that does not have its line for itself.
-pub(crate) const REMARK_BEHIND: Reason =
-    Reason::Said("a remark stands on a line of its own, with `#` as the first byte");
+pub(crate) const REMARK_BEHIND: Reason = Reason::Said(
+    "a remark stands on a line of its own, with `#` as the first byte",
+);
 
 /// Of more behind a word that stands alone.
 pub(crate) const ALONE: Reason = Reason::Said("this word stands alone on its line");
@@ -72,7 +75,8 @@ impl Reason {
         Reason::Said(match rest.first() {
             Some(b'\t') => "a tab: write one space in its place",
             Some(b'\r') => "a carriage return: lines end with LF alone",
-            Some(128..=255) => "this byte is no ASCII: write letters, digits and signs of ASCII alone",
+            Some(128..=255) =>
+                "this byte is no ASCII: write letters, digits and signs of ASCII alone",
             _ => "a control byte: take it away",
         })
     }
@@ -90,11 +94,15 @@ impl Reason {
             Reason::NoNode { workers, shards } => no_node(alloc, workers, shards),
             Reason::BoundTo(kind) => {
                 let kind = name_of(kind);
-                format!(in alloc; "this name stands for {kind} since it was first bound: take another name here")
+                format!(in alloc;
+                    "this name stands for {kind} since it was first bound: take another name here"
+                )
             }
             Reason::NoInt(kind) => {
                 let kind = name_of(kind);
-                format!(in alloc; "this name stands for {kind}, and `set` is for ints alone: take another name")
+                format!(in alloc;
+                    "this name stands for {kind}, and `set` is for ints alone: take another name"
+                )
             }
         }
     }
@@ -103,11 +111,19 @@ impl Reason {
 impl Limit {
     fn message(self, alloc: Global) -> Result<String, AllocError> {
         match self {
-            Limit::Text => format!(in alloc; "the text has more than {MAX_TEXT} bytes: make it shorter"),
-            Limit::Names => format!(in alloc; "a script has at most {MAX_VARIABLES} names: use one again"),
-            Limit::Name => format!(in alloc; "a name has at most {MAX_NAME} characters: make it shorter"),
+            Limit::Text => format!(in alloc;
+                "the text has more than {MAX_TEXT} bytes: make it shorter"
+            ),
+            Limit::Names => format!(in alloc;
+                "a script has at most {MAX_VARIABLES} names: use one again"
+            ),
+            Limit::Name => format!(in alloc;
+                "a name has at most {MAX_NAME} characters: make it shorter"
+            ),
             Limit::Places => {
-                format!(in alloc; "a tuple or template has at most {MAX_PLACES} places: this one is too many")
+                format!(in alloc;
+                    "a tuple or template has at most {MAX_PLACES} places: this one is too many"
+                )
             }
             Limit::Characters => {
                 format!(in alloc; "a str has at most {MAX_CHARACTERS} characters: make it shorter")
@@ -117,15 +133,21 @@ impl Limit {
                 format!(in alloc; "an int has 64 bits: write one from {least} to {most}")
             }
             Limit::Skips => {
-                format!(in alloc; "the form is `unless N`, N from 1 to {MAX_COMMANDS}, with no zeros in front")
+                format!(in alloc;
+                    "the form is `unless N`, N from 1 to {MAX_COMMANDS}, with no zeros in front"
+                )
             }
             Limit::After => {
-                format!(in alloc; "N behind `after` is from 0 to {MAX_STEPS}, with no zeros in front")
+                format!(in alloc;
+                    "N behind `after` is from 0 to {MAX_STEPS}, with no zeros in front"
+                )
             }
             Limit::Match => {
                 format!(in alloc; "PLACE, the last number of `serve`, is from 0 to {MAX_MATCH}")
             }
-            Limit::Commands => format!(in alloc; "a script has at most {MAX_COMMANDS} commands: take some away"),
+            Limit::Commands => format!(in alloc;
+                "a script has at most {MAX_COMMANDS} commands: take some away"
+            ),
             Limit::ShardsLine | Limit::Shards | Limit::Workers | Limit::NodeNumbers => {
                 self.scene_message(alloc)
             }
@@ -135,13 +157,21 @@ impl Limit {
     /// Of what a scene has.
     fn scene_message(self, alloc: Global) -> Result<String, AllocError> {
         match self {
-            Limit::Shards => format!(in alloc; "the form is `shards N`, N from 1 to {MAX_SHARDS}, with no zeros in front"),
+            Limit::Shards => format!(in alloc;
+                "the form is `shards N`, N from 1 to {MAX_SHARDS}, with no zeros in front"
+            ),
             Limit::ShardsLine => {
-                format!(in alloc; "`shards N` is wanted here, N from 1 to {MAX_SHARDS}: write it behind `linda-kt 1`")
+                format!(in alloc;
+                    "`shards N` is wanted here, N from 1 to {MAX_SHARDS}: write it behind `linda-kt 1`"
+                )
             }
-            Limit::Workers => format!(in alloc; "a scenario has at most {MAX_WORKERS} workers: take one away"),
+            Limit::Workers => format!(in alloc;
+                "a scenario has at most {MAX_WORKERS} workers: take one away"
+            ),
             _ => {
-                format!(in alloc; "no scenario has such a node: workers go up to `w{MAX_WORKERS}`, shards to `s{MAX_SHARDS}`")
+                format!(in alloc;
+                    "no scenario has such a node: workers go up to `w{MAX_WORKERS}`, shards to `s{MAX_SHARDS}`"
+                )
             }
         }
     }
@@ -157,7 +187,10 @@ fn name_of(kind: Kind) -> &'static str {
 
 /// The words, one of which is wanted.
 fn wanted(alloc: Global, words: &[&str]) -> Result<String, AllocError> {
-    let mut message = String::from_str(alloc, "no such word can begin a line here, but one of these:")?;
+    let mut message = String::from_str(
+        alloc,
+        "no such word can begin a line here, but one of these:",
+    )?;
     let mut separator = " ";
     for word in words {
         message.push_str(separator)?;

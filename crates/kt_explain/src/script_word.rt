@@ -1,4 +1,5 @@
 //! Lines that no rule allows among the workers and their commands.
+//! Cited by no other file of crates/.
 
 use crate::case::Case;
 use crate::command_form;
@@ -64,7 +65,9 @@ fn text_of_work(case: &Case<'_>, word: &[u8], rest: &[u8]) -> Option<&'static st
         return Some(text_of_steps(case.text));
     }
     if rest.is_empty() && word == b"faults".as_slice() && case.kind == WorkKind::Steps {
-        return Some("`faults` is for `linda_kt run`: give the scenario to it, or write `steps` and steps");
+        return Some(
+            "`faults` is for `linda_kt run`: give the scenario to it, or write `steps` and steps",
+        );
     }
     let is_fault_word = is_among(word, FAULT_WORDS);
     match case.kind {
@@ -81,7 +84,9 @@ fn text_of_work(case: &Case<'_>, word: &[u8], rest: &[u8]) -> Option<&'static st
             Some("`faults` is wanted before the first fault line: write it above this line")
         }
         WorkKind::Faults if is_among(word, STEP_WORDS) => {
-            Some("steps are for `linda_kt replay`: here `faults` is wanted, and fault lines behind it")
+            Some(
+                "steps are for `linda_kt replay`: here `faults` is wanted, and fault lines behind it",
+            )
         }
         _ => None,
     }

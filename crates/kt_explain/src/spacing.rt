@@ -1,4 +1,5 @@
 //! Mistakes that any line may have: how it ends, its spaces, and remarks.
+//! Cited by tuple.rt.
 
 use crate::finding::{Finding, from_first};
 use crate::reason::{REMARK_BEHIND, Reason};
@@ -9,10 +10,7 @@ const CARRIAGE_RETURN: &str =
 /// A carriage return at the end of the line.
 pub(crate) fn carriage_return(line: &[u8]) -> Option<Finding<'_>> {
     match line.split_last() {
-        Some((b'\r', before)) => Some(Finding::said(
-            line.get(before.len()..)?,
-            CARRIAGE_RETURN,
-        )),
+        Some((b'\r', before)) => Some(Finding::said(line.get(before.len()..)?, CARRIAGE_RETURN)),
         _ => None,
     }
 }
@@ -20,10 +18,7 @@ pub(crate) fn carriage_return(line: &[u8]) -> Option<Finding<'_>> {
 /// What is wrong with the line's spaces, or a remark that stands wrong.
 pub(crate) fn finding(line: &[u8]) -> Option<Finding<'_>> {
     let Some(first) = line.first() else {
-        return Some(Finding::said(
-            line,
-            "an empty line: take it away, or write `#` on it",
-        ));
+        return Some(Finding::said(line, "an empty line: take it away, or write `#` on it"));
     };
     if is_blank(first) {
         return Some(indented(line));
@@ -70,10 +65,7 @@ pub(crate) fn blanks_at_end(line: &[u8]) -> Option<Finding<'_>> {
     if rest.is_empty() {
         return None;
     }
-    Some(Finding::said(
-        rest,
-        "a space at the end of the line: take it away",
-    ))
+    Some(Finding::said(rest, "a space at the end of the line: take it away"))
 }
 
 /// Two spaces where one is wanted.

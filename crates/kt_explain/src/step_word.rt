@@ -1,4 +1,5 @@
 //! Lines that no rule allows among steps.
+//! Cited by fault_word.rt.
 
 use crate::case::Case;
 use crate::finding::{Finding, word_in_front};
@@ -10,8 +11,10 @@ use kt_scenario::MAX_STEPS;
 use kt_tuple::reading::word_at;
 use std::alloc::{AllocError, Global};
 
-const DELIVER_FORM: Reason =
-    Reason::Said("the form is `deliver SENDER RECEIVER`, as in `deliver w1 s1`");
+const DELIVER_FORM: Reason = Reason::Said(
+    "the form is `deliver SENDER RECEIVER`, as in `deliver w1 s1`",
+);
+
 const SERVE_FORM: Reason = Reason::Said(
     "the form is `serve SHARD WORKER PLACE`, as in `serve s1 w1 0`: PLACE counts the tuples that match, from 0",
 );
@@ -37,7 +40,9 @@ pub(crate) fn finding<'a>(alloc: Global, case: &Case<'a>) -> Result<Finding<'a>,
 /// What is said of a line that belongs above the work.
 pub(crate) fn text_of_script(case: &Case<'_>, word: &[u8]) -> Option<&'static str> {
     if word == b"steps".as_slice() || word == b"faults".as_slice() {
-        Some("a scenario has one line `steps` or one line `faults`, and not both: take this one away")
+        Some(
+            "a scenario has one line `steps` or one line `faults`, and not both: take this one away",
+        )
     } else if is_among(word, script_words(case.kind)) {
         Some("workers and commands stand above `steps` or `faults`: put this line there")
     } else {

@@ -20,21 +20,9 @@ pub(crate) type Row = (&'static str, &'static str, &'static str);
 
 /// What stands above the lines, the kind of work that is wanted, and the mistakes.
 const TABLE: &[(&str, WorkKind, &[Row])] = &[
-    (
-        "",
-        WorkKind::Steps,
-        IN_TITLE,
-    ),
-    (
-        "linda-kt 1\n",
-        WorkKind::Steps,
-        IN_SHARDS,
-    ),
-    (
-        "linda-kt 1\nshards 1\n",
-        WorkKind::Steps,
-        IN_WORKERS,
-    ),
+    ("", WorkKind::Steps, IN_TITLE),
+    ("linda-kt 1\n", WorkKind::Steps, IN_SHARDS),
+    ("linda-kt 1\nshards 1\n", WorkKind::Steps, IN_WORKERS),
     (
         "linda-kt 1\nshards 1\nworker\nsteps\nend\n",
         WorkKind::Steps,
@@ -65,11 +53,7 @@ const TABLE: &[(&str, WorkKind, &[Row])] = &[
         WorkKind::Steps,
         IN_NAMES,
     ),
-    (
-        "linda-kt 1\nshards 1\nworker\n",
-        WorkKind::Steps,
-        IN_TUPLES,
-    ),
+    ("linda-kt 1\nshards 1\nworker\n", WorkKind::Steps, IN_TUPLES),
     (
         "linda-kt 1\nshards 1\nworker\nout (\"a\", 1)\nin (\"a\", ?int x)\nsteps\n",
         WorkKind::Steps,
@@ -113,12 +97,7 @@ fn assert_said(
 }
 
 /// What is said of the text, which is no scenario of this kind.
-fn said_of(
-    rt: &impl Abort,
-    alloc: Global,
-    text: &[u8],
-    kind: WorkKind,
-) -> Result<String, Fail> {
+fn said_of(rt: &impl Abort, alloc: Global, text: &[u8], kind: WorkKind) -> Result<String, Fail> {
     match read_scene(alloc, text, kind) {
         Ok(_) => {
             assert!(rt; false, "no fault");
@@ -173,8 +152,7 @@ fn a_name_too_many_is_named(rt: HostRuntime) -> Result<(), Fail> {
         text.extend_from_slice(b")\n")?;
     }
     let said = said_of(&rt, alloc, &text, WorkKind::Steps)?;
-    let expected =
-        "  in (?int x64)\n  ^\n  a script has at most 64 names: use one again\n";
+    let expected = "  in (?int x64)\n  ^\n  a script has at most 64 names: use one again\n";
     assert_eq!(rt; said.as_str(), expected);
     Ok(())
 }
@@ -185,7 +163,10 @@ fn a_text_too_long_is_named(rt: HostRuntime) -> Result<(), Fail> {
     let mut text = Vec::from_slice(alloc, b"linda-kt 1\nshards 1\nworker\n")?;
     push_often(&mut text, b"# a remark\n", MAX_TEXT / 10)?;
     let said = said_of(&rt, alloc, &text, WorkKind::Steps)?;
-    assert_eq!(rt; said.as_str(), "  the text has more than 1048576 bytes: make it shorter\n");
+    assert_eq!(rt;
+        said.as_str(),
+        "  the text has more than 1048576 bytes: make it shorter\n"
+    );
     Ok(())
 }
 
@@ -217,8 +198,7 @@ fn nothing_is_said_of_what_does_not_fit(rt: HostRuntime) -> Result<(), Fail> {
 
 #[test]
 fn each_line_has_its_part(rt: HostRuntime) -> Result<(), Fail> {
-    let text =
-        b"# a\nlinda-kt 1\nshards 1\nworker\nout (1)\nsteps\nissue w1\nend\n";
+    let text = b"# a\nlinda-kt 1\nshards 1\nworker\nout (1)\nsteps\nissue w1\nend\n";
     let parts = [
         Part::Title,
         Part::Title,
@@ -232,7 +212,10 @@ fn each_line_has_its_part(rt: HostRuntime) -> Result<(), Fail> {
         Part::Ended,
     ];
     for (before, part) in parts.into_iter().enumerate() {
-        assert!(rt; part_of(text, before.saturating_add(1)) == part, "behind {before}");
+        assert!(rt;
+            part_of(text, before.saturating_add(1)) == part,
+            "behind {before}"
+        );
     }
     assert!(rt; part_of(b"linda-kt 1\nshards 1\nworker\nfaults\n", 5) == Part::Faults);
     Ok(())
@@ -259,9 +242,12 @@ fn the_nearest_word_is_found(rt: HostRuntime) -> Result<(), Fail> {
 #[test]
 fn all_meanings_of_a_number_are_told(rt: HostRuntime) -> Result<(), Fail> {
     let said = explain_number(rt.alloc(), 8)?;
-    assert_eq!(rt; str::from_utf8(&said)?, "fault 8 OutOfMemory: memory ran out while the scenario was read\n\
+    assert_eq!(rt;
+        str::from_utf8(&said)?,
+        "fault 8 OutOfMemory: memory ran out while the scenario was read\n\
 refusal 8 Store: a call of the store was refused\n\
-status 8: there are more steps than can be made at once\n");
+status 8: there are more steps than can be made at once\n"
+    );
     assert!(rt; explain_number(rt.alloc(), 1)?.len() > 0);
     assert!(rt; explain_number(rt.alloc(), 10)?.is_empty());
     assert!(rt; meanings().iter().all(|meaning| !meaning.text.is_empty()));

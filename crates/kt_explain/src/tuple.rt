@@ -1,4 +1,5 @@
 //! Where a tuple or a template breaks off, and why.
+//! Cited by no other file of crates/.
 
 use crate::finding::{Finding, from_first};
 use crate::name::{letters_in_front, name_in_front};
@@ -72,7 +73,8 @@ fn text_of_no_place(c: u8) -> &'static str {
         b'(' | b'[' | b'{' => "no tuple stands in a tuple: values are ints, strs and bools",
         b'+' => "an int has no `+` before it: take it away",
         b'.' => "no floats: values are ints, strs and bools",
-        128..=255 => "this byte is no ASCII: a str stands in the double quotes of ASCII, as in `\"a\"`",
+        128..=255 =>
+            "this byte is no ASCII: a str stands in the double quotes of ASCII, as in `\"a\"`",
         _ => "an int, a str in double quotes, `true`, `false`, a name or a formal is wanted here",
     }
 }
@@ -113,7 +115,8 @@ fn text_of_broken_str(rest: &[u8]) -> &'static str {
         None => "the closing double quote of the str is missing",
         Some(32..=126) => "behind `\\` stands `\"` or `\\`: write `\\\\` for one `\\`",
         Some(b'\t') => "a tab: a str has printable ASCII characters alone, from space to `~`",
-        Some(_) => "this byte may not stand in a str: printable ASCII characters alone, from space to `~`",
+        Some(_) =>
+            "this byte may not stand in a str: printable ASCII characters alone, from space to `~`",
     }
 }
 
@@ -121,20 +124,17 @@ fn behind_int(text: &[u8]) -> Result<&[u8], Finding<'_>> {
     let (digits, rest) = match int_at(text) {
         Ok(read) => read,
         Err(rest) => {
-            return Err(Finding::said(
-                rest,
-                "behind `-` stands a digit from 1 to 9",
-            ));
+            return Err(Finding::said(rest, "behind `-` stands a digit from 1 to 9"));
         }
     };
     match rest.first() {
-        Some(b'.') => Err(Finding::said(
-            rest,
-            "no floats: values are ints, strs and bools",
-        )),
+        Some(b'.') => Err(Finding::said(rest, "no floats: values are ints, strs and bools")),
         Some(b'0'..=b'9') => Err(Finding::said(text, "an int has no zeros in front")),
         Some(b'a'..=b'z' | b'A'..=b'Z' | b'_') => {
-            Err(Finding::said(rest, "an int has digits alone, and a name begins with a letter"))
+            Err(Finding::said(
+                rest,
+                "an int has digits alone, and a name begins with a letter",
+            ))
         }
         _ if int_of(digits).is_none() => Err(Finding::new(text, Reason::Limit(Limit::Bits))),
         _ => Ok(rest),
@@ -173,19 +173,13 @@ fn behind_separator(text: &[u8]) -> Result<Option<&[u8]>, Finding<'_>> {
         )),
         Some((b',', rest)) => match word_at(rest, b" ") {
             Ok(next) => Ok(Some(next)),
-            Err(_) => Err(Finding::said(
-                rest,
-                "one space stands behind a comma: put it here",
-            )),
+            Err(_) => Err(Finding::said(rest, "one space stands behind a comma: put it here")),
         },
         Some((b' ', _)) => Err(Finding::said(
             text,
             "no space stands before a comma or `)`: a comma and a space, or `)`, is wanted here",
         )),
-        Some(_) => Err(Finding::said(
-            text,
-            "a comma and a space, or `)`, is wanted here",
-        )),
+        Some(_) => Err(Finding::said(text, "a comma and a space, or `)`, is wanted here")),
     }
 }
 
@@ -199,5 +193,8 @@ fn behind_closing(rest: &[u8]) -> Finding<'_> {
             return blanks;
         }
     }
-    Finding::said(rest, "the line ends with `)`: take away what stands behind it")
+    Finding::said(
+        rest,
+        "the line ends with `)`: take away what stands behind it",
+    )
 }

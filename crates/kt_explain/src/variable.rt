@@ -1,4 +1,5 @@
 //! Names that break the rules of variables.
+//! Cited by no other file of crates/.
 
 use crate::case::{Above, Case};
 use crate::finding::Finding;

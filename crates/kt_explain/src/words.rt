@@ -1,4 +1,5 @@
 //! The words that may begin a line, part by part.
+//! Cited by fault_word.rt, script_word.rt, step_word.rt.
 
 use kt_text::WorkKind;
 

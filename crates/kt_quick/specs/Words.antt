@@ -12,7 +12,7 @@ use Rattle.kt_command.specs.Status.{EndsInMemory}
 abbrev pub command_of_three : Text → Text → Text → Option Command
 command_of_three name first second =
     if is_word name (codes "run") && (is_word first (codes "--journal") && is_word second (codes "--explain")
-        || is_word first (codes "--explain") && is_word second (codes "--journal"))
+    || is_word first (codes "--explain") && is_word second (codes "--journal"))
     then Some (Run Open outputs.Journal)
     else None
 

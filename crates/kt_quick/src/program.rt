@@ -7,7 +7,8 @@ ghost use Rattle.kt_quick.specs.Words.{IsQuickStatus, command_asked, command_of_
 ghost use Rattle.kt_quick.specs.Words.{command_of_two};
 
 use kt_command::{
-    COMMAND_LINE, Command, DONE, Explained, Explainer, MEMORY, run_in_memory, texts_of, words_behind,
+    COMMAND_LINE, Command, DONE, Explained, Explainer, MEMORY, run_in_memory, texts_of,
+    words_behind,
 };
 use kt_run::Output;
 use kt_scene::{Sink, Source, Start};

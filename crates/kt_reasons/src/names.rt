@@ -1,5 +1,5 @@
 //! Names as people write them: of nodes, and of all nodes of a kind.
-//! Cited by reasons.rt, refused.rt.
+//! Cited by faults.rt, missing.rt, reasons.rt.
 
 use kt_tuple::NodeId;
 use std::fmt;

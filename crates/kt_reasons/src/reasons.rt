@@ -1,6 +1,6 @@
 //! Why a world refuses a step, in words: who is down, which link is empty, how many tuples match, what stands in the
 //! way.
-//! Cited by refused.rt.
+//! Cited by faults.rt, refused.rt.
 
 use crate::missing::push_missing;
 use crate::names::{Count, Name, Names};

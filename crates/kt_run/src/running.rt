@@ -11,8 +11,8 @@ ghost use Rattle.kt_run.specs.Run.{WritesFront, WritesRun, WritesRunFront};
 
 use crate::fault::RunTextFault;
 use kt_scene::{
-    Nobody, Observer, ReplayFault, Scenario, Sink, Source, Start, WorkKind, read_scene, read_text, write_journal,
-    write_report,
+    Nobody, Observer, ReplayFault, Scenario, Sink, Source, Start, WorkKind, read_scene, read_text,
+    write_journal, write_report,
 };
 use kt_stage::{Gate, Journal, run_threads_returning_left};
 use kt_store::CkptStore;

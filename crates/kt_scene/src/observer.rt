@@ -1,5 +1,5 @@
 //! Who is told what a command meets on its way.
-//! Cited by replaying.rt.
+//! Cited by replaying.rt; kt_command, kt_run; whoever calls the trait `Observer`.
 
 use crate::fault::ReplayFault;
 use kt_core::{Step, World};
@@ -41,8 +41,7 @@ impl Observer for Nobody {
         _world: &World<S>,
         _steps: &[Step],
         _fault: ReplayFault,
-    ) {
-    }
+    ) {}
 
     fn ended<S: CkptStore>(&mut self, _alloc: Global, _world: &World<S>, _steps: &[Step]) {}
 }

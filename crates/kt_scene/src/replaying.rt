@@ -46,8 +46,14 @@ pub fn replay<R: Read, W: Write, S: CkptStore + Drop>(
     // Before any fault but the writer's the writer is not called.
     ensures nothing { IfErr result (λ fault. UnlessWrite fault (writer.new ≡ writer.old)) }
 {
-    let (answer, left) =
-        replay_returning_store(alloc, Start::Open, reader, writer, store, &mut Nobody);
+    let (answer, left) = replay_returning_store(
+        alloc,
+        Start::Open,
+        reader,
+        writer,
+        store,
+        &mut Nobody,
+    );
     drop(left);
     answer
 }
@@ -72,8 +78,14 @@ pub fn resume_replay<R: Read, W: Write, S: CkptStore + Drop>(
     // Before any fault but the writer's the writer is not called.
     ensures nothing { IfErr result (λ fault. UnlessWrite fault (writer.new ≡ writer.old)) }
 {
-    let (answer, left) =
-        replay_returning_store(alloc, Start::Resume, reader, writer, store, &mut Nobody);
+    let (answer, left) = replay_returning_store(
+        alloc,
+        Start::Resume,
+        reader,
+        writer,
+        store,
+        &mut Nobody,
+    );
     drop(left);
     answer
 }

@@ -74,7 +74,9 @@ pub fn run_arguments<
         Err(_) => return answer_words(&refuse_bytes(alloc), writer, errors),
     };
     match texts {
-        Ok(texts) => run_texts(opener, threads, alloc, &texts, reader, writer, errors, is_watched),
+        Ok(texts) => run_texts(
+            opener, threads, alloc, &texts, reader, writer, errors, is_watched,
+        ),
         Err(AllocError) => end_by("memory", MEMORY, errors),
     }
 }
@@ -157,7 +159,9 @@ pub fn run_program<
         → reader.new ≡ reader.old }
 {
     match read_words(alloc, words) {
-        Ok(request) => run_request(opener, threads, alloc, request, is_watched, reader, writer, errors),
+        Ok(request) => run_request(
+            opener, threads, alloc, request, is_watched, reader, writer, errors,
+        ),
         Err(error) => answer_words(&error, writer, errors),
     }
 }

@@ -187,7 +187,9 @@ fn explain_flag<'a>(alloc: Global) -> Arg<'a>
     Arg::new(alloc, "explain")
         .long("explain")
         .action(ArgAction::SetTrue)
-        .help("Says behind the line of a fault why it came; on a terminal that is so without the flag")
+        .help(
+            "Says behind the line of a fault why it came; on a terminal that is so without the flag",
+        )
 }
 
 /// `--store FILE`.

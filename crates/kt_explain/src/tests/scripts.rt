@@ -251,28 +251,24 @@ pub(crate) const IN_SCRIPT_OF_RUN: &[Row] = &[
 ];
 
 /// A journal that is given to run.
-pub(crate) const IN_JOURNAL: &[Row] = &[
-    (
-        "91: a journal given to run",
-        "steps\n",
-        r#"  steps
+pub(crate) const IN_JOURNAL: &[Row] = &[(
+    "91: a journal given to run",
+    "steps\n",
+    r#"  steps
   ^
   this is a journal: replay it, with `linda_kt replay`
 "#,
-    ),
-];
+)];
 
 /// A journal of a run that went on.
-pub(crate) const IN_RESUMED: &[Row] = &[
-    (
-        "91: the journal of a run that went on",
-        "steps\n",
-        r#"  steps
+pub(crate) const IN_RESUMED: &[Row] = &[(
+    "91: the journal of a run that went on",
+    "steps\n",
+    r#"  steps
   ^
   this is a journal of a run that went on from a store: give it to `linda_kt resume`
 "#,
-    ),
-];
+)];
 
 /// The rules of names.
 pub(crate) const IN_NAMES: &[Row] = &[

@@ -189,13 +189,11 @@ pub(crate) const IN_FAULTS: &[Row] = &[
 ];
 
 /// Fault lines where there are more nodes.
-pub(crate) const IN_MORE_NODES: &[Row] = &[
-    (
-        "54: a node that is not there",
-        "fail s4 after 0\n",
-        r#"  fail s4 after 0
+pub(crate) const IN_MORE_NODES: &[Row] = &[(
+    "54: a node that is not there",
+    "fail s4 after 0\n",
+    r#"  fail s4 after 0
        ^
   there is no such node: this scenario has `w1` to `w2` and `s1` to `s3`
 "#,
-    ),
-];
+)];

@@ -11,7 +11,7 @@ returns-in_default c =
 pub loop-left-preserved : goal.loop-left-preserved
 loop-left-preserved c =
     let next = passed_one c.loop-left.part c.loop-left.left c.loop-left.rest.now c.in-Some.words.now c.in-Some.after.now (omega (arith, c.loop-left-test.true))
-        c.in-Some.ensures.line in
+    c.in-Some.ensures.line in
     let part = c.behind-part.ensures in
     ap (λ p. part_after p (c.loop-left.left - 1) (lines_of c.in-Some.after.now).0) part ∙ sym next ∙ c.loop-left.invariant
 
