@@ -1,10 +1,11 @@
 """Who relies on a file: the line `Cited by ..` in the head of each source, specification and file of lemmas.
 
 A file of specs/ or proofs/ is cited by who imports a word of it, also where another file passes the word on. A source is
-cited by who imports an item of it, or calls a method that it defines: of a type which the caller names, or of a name that no other
-type has a method of. Named are files of the same crate, the
+cited by who imports an item of it, or calls a method that it defines and may know it by crates.txt: of a type which the
+caller names, or of a name that no other type has a method of, in std neither. Named are files of the same crate, the
 functions whose proofs cite it, and other crates. Roots, answers and invariants have no such line: the heads of roots
-name crates, and an answer is for the function that its path names.
+name crates, and an answer is for the function that its path names. Where that function stands in another source than
+the path says, the answers begin with a line of their own, `Of ..`.
 """
 
 import collections
@@ -25,7 +26,16 @@ IMPORT = re.compile(r"\b(pub )?use (Rattle\.[\w.+-]+?)(?:\.\{([^}]*)\}| as \w+)"
 INLINE = re.compile(r"\bRattle\.(\w+\.(?:specs|proofs)(?:\.\w+)*)\.([\w-]+)")
 USING = re.compile(r"\bcrate::proofs::((?:\w+::)*\w+)::([\w'-]+)")
 CODE = re.compile(r"^(pub )?use ([\w:]+?)(?:::\{([^}]*)\}|::(\w+))?;", re.MULTILINE)
-LINE = re.compile(r"^(?://!|--) Cited by .*\n(?:(?://!|--)   .*\n)*", re.MULTILINE)
+# Names of methods that types of std or of the kit have too.
+COMMON = set(
+    "act add again allocator append as_bytes as_slice ask begin bind change check close confirm connect copy count "
+    "discard drop empty end eq first flush fmt from from_parts front get group hash index into_inner into_parts "
+    "into_store is_empty keep kind left len lines load mark matches mode new next of open over parent parse place "
+    "place_of pop prepare print push push_reserved put put_both read read_line refuse refused remove repeat reserve "
+    "settle short sleep step take then to_vec update values wait write".split()
+)
+OF_LINE = re.compile(r"^-- Of `.*\n", re.MULTILINE)
+CITED_LINE = re.compile(r"^(?://!|--) Cited by .*\n(?:(?://!|--)   .*\n)*", re.MULTILINE)
 
 
 def names_in(text):
@@ -129,10 +139,11 @@ def methods_of(path):
     """The functions of a source, each with the type that it belongs to, or "", and the traits of this repository that
     the source meets."""
     owner, found, traits = "", set(), set()
+    private = set(re.findall(r"^trait (\w+)", text_of(path), re.MULTILINE))
     for line in text_of(path).splitlines():
         if head := IMPL.match(line):
             owner = head[2]
-            if head[1] and head[1] not in FOREIGN:
+            if head[1] and head[1] not in FOREIGN | private:
                 traits.add(head[1])
                 owner = ""
                 continue
@@ -146,17 +157,26 @@ def methods_of(path):
 @functools.lru_cache(maxsize=None)
 def types_with(name):
     """How many types have a method of this name."""
-    return sum(1 for path, place in all_files().items() if place[1] == "src" for _, other in methods_of(path)[0] if other == name)
+    sources = [path for path, place in all_files().items() if place[1] == "src"]
+    return sum(1 for path in sources for owner, other in methods_of(path)[0] if owner and other == name)
+
+
+@functools.lru_cache(maxsize=None)
+def below(crate):
+    """The crates that may be known in this one: itself, and those that it stands on."""
+    with open(f"{ROOT}/crates.txt", encoding="ascii") as listed:
+        return {crate, *(name for line in listed if line.startswith(f"{crate}:") for name in line.split()[1:])}
 
 
 def calls(text, owner, name):
     """Whether a text calls the method of this type: by both names, or by the method's where the type is named too or no
-    other has a method of that name."""
+    other type has a method of that name, those of std among them."""
     if f"{owner}::{name}(" in text or f"{owner}::{name}," in text:
         return True
     if not re.search(rf"\.{name}\(", text):
         return False
-    return types_with(name) == 1 or bool(re.search(rf"\b{owner}\b", text))
+    is_alone = types_with(name) == 1 and name not in COMMON
+    return is_alone or bool(re.search(rf"\b{owner}\b", text))
 
 
 @functools.lru_cache(maxsize=None)
@@ -175,10 +195,50 @@ def cited_sources():
                 if home in path_of and path_of[home] != path:
                     found[path_of[home]].add(path)
     for path in sources:
+        crate = all_files()[path][0]
+        others = [other for other in sources if other != path and crate in below(all_files()[other][0])]
         for owner, name in methods_of(path)[0]:
             if owner:
-                found[path] |= {other for other in sources if other != path and calls(bare[other], owner, name)}
+                found[path] |= {other for other in others if calls(bare[other], owner, name)}
     return found
+
+
+# ---- answers under another source than their function's
+
+
+def place_of(path):
+    """The source that the path of an answer names, and the type and name of its function."""
+    crate, folder, module = all_files()[path]
+    *parts, last = module.split(".")
+    if folder != "proofs" or last not in OF_A_FUNCTION or not parts:
+        return None
+    name = parts.pop().lstrip("+")
+    owner = parts.pop() if parts and parts[-1].lstrip("+")[:1].isupper() else ""
+    return f"crates/{crate}/src/{'/'.join(part.lstrip('+') for part in parts)}.rt", owner.lstrip("+"), name
+
+
+@functools.lru_cache(maxsize=None)
+def homes(crate):
+    """The sources of each function of the crate, by its type and name."""
+    found = collections.defaultdict(list)
+    for path, (of, folder, module) in all_files().items():
+        if of == crate and folder == "src":
+            for function in methods_of(path)[0]:
+                found[function].append(path)
+    return found
+
+
+def of_line(path):
+    """The line for answers whose function does not stand where their path says; else nothing."""
+    place = place_of(path)
+    if not place:
+        return ""
+    source, owner, name = place
+    found = homes(all_files()[path][0])[owner, name]
+    if len(found) != 1 or found[0] == source:
+        return ""
+    called = f"{owner}::{name}" if owner else name
+    return f"-- Of `{called}` in src/{os.path.basename(found[0])}.\n"
 
 
 # ---- the line
@@ -212,7 +272,9 @@ def line_of(path):
 
 def with_line(path):
     """The file's text with this line at the end of its head."""
-    text = LINE.sub("", text_of(path), count=1)
+    if not has_line(path):
+        return of_line(path) + OF_LINE.sub("", text_of(path), count=1)
+    text = CITED_LINE.sub("", text_of(path), count=1)
     mark = "//!" if path.endswith(".rt") else "--"
     head = re.match(rf"(?:{re.escape(mark)}.*\n)*", text)[0]
     return head + line_of(path) + text[len(head) :]
@@ -220,15 +282,14 @@ def with_line(path):
 
 def wrong_lines():
     """The files whose line is not as it must be."""
-    lost = [path for path in all_files() if has_line(path) and with_line(path) != text_of(path)]
-    return [f"{path}: its line `Cited by` is not as `tests/cited` prints it: `tests/cited --write`" for path in lost]
+    lost = [path for path in all_files() if with_line(path) != text_of(path)]
+    return [f"{path}: its line `Cited by` or `Of` is not as `tests/cited` prints it: `tests/cited --write`" for path in lost]
 
 
 def write():
     """Puts the line into each file that has none or another."""
     for path in all_files():
-        if has_line(path):
-            new = with_line(path)
-            if new != text_of(path):
-                with open(f"{ROOT}/{path}", "w", encoding="utf-8") as file:
-                    file.write(new)
+        new = with_line(path)
+        if new != text_of(path):
+            with open(f"{ROOT}/{path}", "w", encoding="utf-8") as file:
+                file.write(new)

@@ -21,7 +21,7 @@ const NO_PLUS: &str = "`set x = y + K` is the only form: write ` + 0` behind it 
 const SPACES: &str = "one space stands before and behind `+`, as in `set x = y + 1`";
 
 /// What is wrong with a command that begins with this word of a command, and goes on so.
-pub(crate) fn finding<'a>(word: &[u8], rest: &'a [u8]) -> Finding<'a> {
+pub(crate) fn finding_in_command<'a>(word: &[u8], rest: &'a [u8]) -> Finding<'a> {
     if word == b"set".as_slice() {
         match judge_set(rest) {
             Ok(()) => Finding::new(rest, SET_FORM),

@@ -9,7 +9,7 @@ use crate::reason::{Limit, Reason};
 use kt_text::WorkKind;
 
 /// What is wrong with the end of the text.
-pub(crate) fn finding<'a>(case: &Case<'a>) -> Finding<'a> {
+pub(crate) fn finding_at_end<'a>(case: &Case<'a>) -> Finding<'a> {
     if case.is_end_of_text() {
         return Finding::new(case.line, missing(case));
     }

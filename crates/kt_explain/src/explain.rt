@@ -1,15 +1,23 @@
 //! A fault of a text, explained.
-//! Cited by kt_command.
+//! Cited by no other file of crates/.
 
 ghost use Rattle.std.specs.Prelude.{◌≡◌, [], IfOk, OnOk};
 ghost use Rattle.kt_explain.specs.Shown.{IsPlain};
 
 use crate::case::Case;
+use crate::ending::finding_at_end;
+use crate::fault_word::finding_in_fault;
 use crate::finding::Finding;
+use crate::header::finding_in_head;
+use crate::limit::{finding_of_limit, finding_of_node};
 use crate::part::Part;
 use crate::reason::{Limit, Reason};
+use crate::script_word::{finding_before_workers, finding_in_script};
 use crate::shown::{push_line, push_plain, push_shown};
-use crate::{ending, fault_word, header, limit, script_word, spacing, step_word, tuple, variable};
+use crate::spacing::{carriage_return, finding_of_spaces};
+use crate::step_word::finding_in_step;
+use crate::tuple::finding_in_places;
+use crate::variable::finding_of_name;
 use kt_text::{MAX_TEXT, SceneError, SceneFault, WorkKind};
 use std::alloc::{AllocError, Global};
 
@@ -86,15 +94,15 @@ fn finding_of<'a>(
 ) -> Result<Option<Finding<'a>>, AllocError> {
     match cause {
         SceneError::Header | SceneError::Word | SceneError::Tuple => {
-            match spacing::carriage_return(case.line) {
+            match carriage_return(case.line) {
                 Some(finding) => Ok(Some(finding)),
                 None => finding_of_form(alloc, case, cause),
             }
         }
-        SceneError::Variable => Ok(variable::finding(case)),
-        SceneError::Limit => Ok(limit::finding(case)),
-        SceneError::Node => Ok(limit::no_node(case)),
-        SceneError::End => Ok(Some(ending::finding(case))),
+        SceneError::Variable => Ok(finding_of_name(case)),
+        SceneError::Limit => Ok(finding_of_limit(case)),
+        SceneError::Node => Ok(finding_of_node(case)),
+        SceneError::End => Ok(Some(finding_at_end(case))),
         SceneError::OutOfMemory => Ok(None),
     }
 }
@@ -106,22 +114,22 @@ fn finding_of_form<'a>(
     cause: SceneError,
 ) -> Result<Option<Finding<'a>>, AllocError> {
     match cause {
-        SceneError::Header => header::finding(alloc, case),
-        SceneError::Tuple => Ok(tuple::finding(case.line)),
+        SceneError::Header => finding_in_head(alloc, case),
+        SceneError::Tuple => Ok(finding_in_places(case.line)),
         _ => finding_of_word(alloc, case),
     }
 }
 
 /// Why no rule allows the line.
 fn finding_of_word<'a>(alloc: Global, case: &Case<'a>) -> Result<Option<Finding<'a>>, AllocError> {
-    if let Some(finding) = spacing::finding(case.line) {
+    if let Some(finding) = finding_of_spaces(case.line) {
         return Ok(Some(finding));
     }
     match case.part {
-        Part::Workers => Ok(Some(script_word::before_workers(alloc, case)?)),
-        Part::Scripts => Ok(Some(script_word::in_script(alloc, case)?)),
-        Part::Steps => Ok(Some(step_word::finding(alloc, case)?)),
-        Part::Faults => Ok(Some(fault_word::finding(alloc, case)?)),
+        Part::Workers => Ok(Some(finding_before_workers(alloc, case)?)),
+        Part::Scripts => Ok(Some(finding_in_script(alloc, case)?)),
+        Part::Steps => Ok(Some(finding_in_step(alloc, case)?)),
+        Part::Faults => Ok(Some(finding_in_fault(alloc, case)?)),
         Part::Title | Part::Shards | Part::Ended => Ok(None),
     }
 }

@@ -15,7 +15,10 @@ const FORM: Reason = Reason::Said(
 );
 
 /// What is wrong with a line behind `faults`.
-pub(crate) fn finding<'a>(alloc: Global, case: &Case<'a>) -> Result<Finding<'a>, AllocError> {
+pub(crate) fn finding_in_fault<'a>(
+    alloc: Global,
+    case: &Case<'a>,
+) -> Result<Finding<'a>, AllocError> {
     let (word, rest) = word_in_front(case.line);
     if word == b"end".as_slice() {
         return Ok(Finding::new(rest, ALONE));

@@ -1,9 +1,10 @@
 //! What is wrong with a scenario's text, said in words, and what each number and name that is printed means.
 //!
-//! - Contract: of want of memory `explain_text` says nothing (clause `memory`). What `nearest` gives is one of the words
-//!   that were handed in (clause `member`). What an answer says is tested and not proved.
+//! - Contract: what `explain_text` says is printable ASCII and line feeds, whatever the text holds (clause `plain`).
+//!   The word that `nearest` gives is one of those handed in, and none of them is nearer. `part_of` gives the part to
+//!   which the lines above lead. What an answer says is tested and not proved.
 //! - Stands on: kt_tuple, kt_script, kt_scenario, kt_text; of the kit: strsim
-//! - Used by: none yet
+//! - Used by: none
 //! - Begin in: `explain.rt`, which goes by the fault, then `part.rt` for where a line stands. `reason.rt` has what is
 //!   said, and the other files find which of it is meant.
 #![tactic(auto)]

@@ -11,7 +11,7 @@ use kt_script::MAX_COMMANDS;
 use kt_tuple::reading::{int_of, word_at};
 
 /// The limit that a line passes.
-pub(crate) fn finding<'a>(case: &Case<'a>) -> Option<Finding<'a>> {
+pub(crate) fn finding_of_limit<'a>(case: &Case<'a>) -> Option<Finding<'a>> {
     match case.part {
         Part::Shards => {
             let number = word_at(case.line, b"shards ").ok()?;
@@ -57,7 +57,7 @@ fn in_number(line: &[u8]) -> Option<Finding<'_>> {
 }
 
 /// The node of a fault line, which the scenario has not.
-pub(crate) fn no_node<'a>(case: &Case<'a>) -> Option<Finding<'a>> {
+pub(crate) fn finding_of_node<'a>(case: &Case<'a>) -> Option<Finding<'a>> {
     if case.part != Part::Faults {
         return None;
     }

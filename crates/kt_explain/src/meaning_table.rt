@@ -57,19 +57,19 @@ pub(crate) const MEANINGS: &[Meaning] = &[
         kind: MeaningKind::Refusal,
         number: Some(1),
         name: "NoNode",
-        text: "a node is not in the scenario or not of the kind that the step is for: `issue` is for workers, `serve` names the shard first, `deliver` a worker and a shard",
+        text: "no such node is there, or a worker is named where a shard is wanted, or a shard where a worker is",
     },
     Meaning {
         kind: MeaningKind::Refusal,
         number: Some(2),
         name: "WrongMode",
-        text: "the node's mode does not allow the step: `issue`, `take`, `serve` and `check` need a node that is up, `restart` one that failed",
+        text: "the node's mode does not allow it: most steps need a node that is up, `restart` one that failed",
     },
     Meaning {
         kind: MeaningKind::Refusal,
         number: Some(3),
         name: "NothingThere",
-        text: "there is nothing to issue, deliver, take, serve, decide or learn: a step before it is missing, as `deliver` before `serve`",
+        text: "there is nothing to issue, deliver, take, serve, decide or learn: a step before it is missing",
     },
     Meaning {
         kind: MeaningKind::Refusal,
@@ -165,7 +165,7 @@ pub(crate) const MEANINGS: &[Meaning] = &[
         kind: MeaningKind::Store,
         number: None,
         name: "Device",
-        text: "the file can't be opened, read or written: see its name, its folder, its rights and whether another program has it open",
+        text: "the file can't be opened, read or written: see its name, folder and rights, and who else has it open",
     },
     Meaning {
         kind: MeaningKind::Store,
@@ -183,7 +183,7 @@ pub(crate) const MEANINGS: &[Meaning] = &[
         kind: MeaningKind::Store,
         number: None,
         name: "NotFresh",
-        text: "the file holds something of an earlier command: take a new file, or go on from it with `resume` or `run --resume`",
+        text: "the file holds something of an earlier command: take a new file, or go on with `resume`",
     },
     Meaning {
         kind: MeaningKind::Store,

@@ -15,7 +15,10 @@ pub(crate) fn name_in_front(text: &[u8]) -> Result<(&[u8], &[u8]), Finding<'_>> 
         let rest = text
             .get(word.len().saturating_sub(wrong.len())..)
             .unwrap_or(text);
-        return Err(Finding::said(rest, "a name has small letters, digits and `_` alone"));
+        return Err(Finding::said(
+            rest,
+            "a name has small letters, digits and `_` alone: write it so",
+        ));
     }
     if word.len() > MAX_NAME {
         return Err(Finding::new(text, Reason::Limit(Limit::Name)));
@@ -23,7 +26,7 @@ pub(crate) fn name_in_front(text: &[u8]) -> Result<(&[u8], &[u8]), Finding<'_>> 
     if !is_name(word) {
         return Err(Finding::said(
             text,
-            "this word is no name: `int`, `str`, `bool`, `true` and `false` mean something else",
+            "`int`, `str`, `bool`, `true` and `false` are no names: take another name",
         ));
     }
     Ok((word, rest))

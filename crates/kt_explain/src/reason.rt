@@ -17,7 +17,9 @@ pub(crate) const REMARK_BEHIND: Reason = Reason::Said(
 );
 
 /// Of more behind a word that stands alone.
-pub(crate) const ALONE: Reason = Reason::Said("this word stands alone on its line");
+pub(crate) const ALONE: Reason = Reason::Said(
+    "this word stands alone on its line: take away what stands behind it",
+);
 
 /// Why a line has a fault.
 #[derive(Clone, Copy, Debug)]
@@ -187,10 +189,7 @@ fn name_of(kind: Kind) -> &'static str {
 
 /// The words, one of which is wanted.
 fn wanted(alloc: Global, words: &[&str]) -> Result<String, AllocError> {
-    let mut message = String::from_str(
-        alloc,
-        "no such word can begin a line here, but one of these:",
-    )?;
+    let mut message = String::from_str(alloc, "one of these is wanted here:")?;
     let mut separator = " ";
     for word in words {
         message.push_str(separator)?;

@@ -2,7 +2,7 @@
 //! Cited by no other file of crates/.
 
 use crate::case::Case;
-use crate::command_form;
+use crate::command_form::finding_in_command;
 use crate::finding::{Finding, word_in_front};
 use crate::near::nearest;
 use crate::reason::{ALONE, Reason};
@@ -11,7 +11,7 @@ use kt_text::WorkKind;
 use std::alloc::{AllocError, Global};
 
 /// What is wrong where the first worker is wanted.
-pub(crate) fn before_workers<'a>(
+pub(crate) fn finding_before_workers<'a>(
     alloc: Global,
     case: &Case<'a>,
 ) -> Result<Finding<'a>, AllocError> {
@@ -41,7 +41,10 @@ pub(crate) fn before_workers<'a>(
 }
 
 /// What is wrong in a script.
-pub(crate) fn in_script<'a>(alloc: Global, case: &Case<'a>) -> Result<Finding<'a>, AllocError> {
+pub(crate) fn finding_in_script<'a>(
+    alloc: Global,
+    case: &Case<'a>,
+) -> Result<Finding<'a>, AllocError> {
     let (word, rest) = word_in_front(case.line);
     if let Some(text) = text_of_work(case, word, rest) {
         return Ok(Finding::said(case.line, text));
@@ -51,7 +54,7 @@ pub(crate) fn in_script<'a>(alloc: Global, case: &Case<'a>) -> Result<Finding<'a
     }
     let words = script_words(case.kind);
     if is_among(word, words) {
-        return Ok(command_form::finding(word, rest));
+        return Ok(finding_in_command(word, rest));
     }
     match nearest(alloc, word, words)? {
         Some(meant) => Ok(Finding::new(case.line, Reason::Meant(meant))),

@@ -16,7 +16,7 @@ pub(crate) fn carriage_return(line: &[u8]) -> Option<Finding<'_>> {
 }
 
 /// What is wrong with the line's spaces, or a remark that stands wrong.
-pub(crate) fn finding(line: &[u8]) -> Option<Finding<'_>> {
+pub(crate) fn finding_of_spaces(line: &[u8]) -> Option<Finding<'_>> {
     let Some(first) = line.first() else {
         return Some(Finding::said(line, "an empty line: take it away, or write `#` on it"));
     };

@@ -20,7 +20,10 @@ const SERVE_FORM: Reason = Reason::Said(
 );
 
 /// What is wrong with a line behind `steps`.
-pub(crate) fn finding<'a>(alloc: Global, case: &Case<'a>) -> Result<Finding<'a>, AllocError> {
+pub(crate) fn finding_in_step<'a>(
+    alloc: Global,
+    case: &Case<'a>,
+) -> Result<Finding<'a>, AllocError> {
     let (word, rest) = word_in_front(case.line);
     if let Some(step) = listed(word, STEP_WORDS) {
         return Ok(match judge_step(step, rest) {

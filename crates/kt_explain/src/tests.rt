@@ -4,7 +4,7 @@ mod scripts;
 mod tuples;
 mod work;
 
-use crate::tests::heads::{BEHIND_END, IN_SHARDS, IN_TITLE, IN_WORKERS};
+use crate::tests::heads::{BEHIND_END, IN_SHARDS, IN_TITLE, IN_TITLE_OF_RUN, IN_WORKERS};
 use crate::tests::scripts::{IN_JOURNAL, IN_NAMES, IN_RESUMED, IN_SCRIPT, IN_SCRIPT_OF_RUN};
 use crate::tests::tuples::IN_TUPLES;
 use crate::tests::work::{IN_FAULTS, IN_MORE_NODES, IN_STEPS};
@@ -21,6 +21,7 @@ pub(crate) type Row = (&'static str, &'static str, &'static str);
 /// What stands above the lines, the kind of work that is wanted, and the mistakes.
 const TABLE: &[(&str, WorkKind, &[Row])] = &[
     ("", WorkKind::Steps, IN_TITLE),
+    ("", WorkKind::Faults, IN_TITLE_OF_RUN),
     ("linda-kt 1\n", WorkKind::Steps, IN_SHARDS),
     ("linda-kt 1\nshards 1\n", WorkKind::Steps, IN_WORKERS),
     (

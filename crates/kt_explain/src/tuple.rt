@@ -12,7 +12,7 @@ use kt_tuple::reading::{int_at, int_of, value_at, value_of, word_at};
 const UNCLOSED: &str = "the line ends inside of the tuple: `)` is missing";
 
 /// What is wrong with the tuple or template of an operation's line.
-pub(crate) fn finding(line: &[u8]) -> Option<Finding<'_>> {
+pub(crate) fn finding_in_places(line: &[u8]) -> Option<Finding<'_>> {
     let text = behind_verb(line)?;
     let takes_formals = word_at(line, b"out ").is_err();
     judge(text, takes_formals).err()
@@ -72,7 +72,7 @@ fn text_of_no_place(c: u8) -> &'static str {
         b'\t' => "a tab: behind a comma stands one space, and behind `(` none",
         b'(' | b'[' | b'{' => "no tuple stands in a tuple: values are ints, strs and bools",
         b'+' => "an int has no `+` before it: take it away",
-        b'.' => "no floats: values are ints, strs and bools",
+        b'.' => "no floats: write an int, or a str as in `\"1.5\"`",
         128..=255 =>
             "this byte is no ASCII: a str stands in the double quotes of ASCII, as in `\"a\"`",
         _ => "an int, a str in double quotes, `true`, `false`, a name or a formal is wanted here",
@@ -128,8 +128,11 @@ fn behind_int(text: &[u8]) -> Result<&[u8], Finding<'_>> {
         }
     };
     match rest.first() {
-        Some(b'.') => Err(Finding::said(rest, "no floats: values are ints, strs and bools")),
-        Some(b'0'..=b'9') => Err(Finding::said(text, "an int has no zeros in front")),
+        Some(b'.') => Err(Finding::said(rest, "no floats: write an int, or a str as in `\"1.5\"`")),
+        Some(b'0'..=b'9') => Err(Finding::said(
+            text,
+            "an int has no zeros in front: take them away",
+        )),
         Some(b'a'..=b'z' | b'A'..=b'Z' | b'_') => {
             Err(Finding::said(
                 rest,

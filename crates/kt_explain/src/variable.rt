@@ -14,7 +14,7 @@ const UNBOUND: &str =
     "nothing has bound this name yet: bind it in a command above, as in `in (\"a\", ?int x)`";
 
 /// The name that breaks a rule, and which.
-pub(crate) fn finding<'a>(case: &Case<'a>) -> Option<Finding<'a>> {
+pub(crate) fn finding_of_name<'a>(case: &Case<'a>) -> Option<Finding<'a>> {
     match word_at(case.line, b"set ") {
         Ok(words) => in_set(&case.above, words),
         Err(_) => in_places(case),

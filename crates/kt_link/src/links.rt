@@ -1,6 +1,5 @@
 //! The links between workers and shards.
-//! Cited by tests.rt; kt_core, kt_history, kt_memory_tests, kt_resume, kt_scenario, kt_script, kt_space, kt_stage,
-//!   kt_state, kt_store, kt_text, kt_vote.
+//! Cited by tests.rt; kt_core.
 
 ghost use Rattle.std.specs.Prelude.{◌≡◌, ◌+◌, ◌*◌, ◌<◌, ◌≤◌, ◌↔◌, ◌++◌, ◌∷◌, [], drop, length, map};
 ghost use Rattle.std.specs.Prelude.{replicate, slice_get, IsTrue, IsOk, IfOk, IfErr, IfSome, OnOk, OnErr};

@@ -201,9 +201,9 @@ pub caused-more : (h : List Note) (numbers : List ℕ) (i : ℕ) → i < length 
 caused-more h numbers i lt before here = record {
   caused = λ n a on is. elim (Contains-push_cases (take i numbers) (get_or numbers i 0) n
       (subst (λ (l : List ℕ). Contains l n) (take_more numbers i 0 lt) on)) [
-    | inl old ↦ before.caused n a old is
-    | inr new ↦ here a (ap (λ k. act_of (note_at h k)) new ∙ ap act_of is)
-  ];
+        | inl old ↦ before.caused n a old is
+        | inr new ↦ here a (ap (λ k. act_of (note_at h k)) new ∙ ap act_of is)
+      ];
 }
 
 -- where all are, each act makes sense

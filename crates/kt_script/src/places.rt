@@ -1,6 +1,5 @@
 //! The places of a command's tuple or template.
-//! Cited by command.rt, meaning.rt, name.rt, rules.rt, script.rt, variables.rt, writing.rt; kt_ckpt, kt_explain,
-//!   kt_memory_tests, kt_reasons, kt_sql_tables, kt_text, kt_tuple, linda_kt.
+//! Cited by command.rt.
 
 ghost use Rattle.std.specs.Prelude.{◌≡◌, ◌↔◌, IsSome, IfSome};
 ghost use Rattle.kt_tuple.specs.Matching.{HasArity};

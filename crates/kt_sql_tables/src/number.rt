@@ -1,5 +1,5 @@
 //! The numbers of the tables.
-//! Cited by carrying.rt, cells.rt, reads.rt, rows.rt; kt_text, kt_worker; whoever calls the trait `ToSql`.
+//! Cited by carrying.rt, cells.rt, reads.rt, rows.rt; whoever calls the trait `ToSql`.
 
 ghost use Rattle.std.specs.Prelude.{◌≡◌, ◌+◌, ◌<◌, ◌≤◌, pos, MatchOption};
 ghost use Rattle.sqlite.specs.declared.types.Value.TheVariants.{Int};

@@ -1,5 +1,5 @@
 //! The lines of commands, judged without memory.
-//! Cited by draft.rt; whoever calls the trait `Placed`.
+//! Cited by draft.rt.
 
 ghost use Rattle.std.specs.Prelude.{◌≡◌, ◌≤◌, ℕ, List, [], ◌∷◌, length, IfSome, IfOk, false, not, position};
 ghost use Rattle.std.specs.Prelude.{Option, Some, None};

@@ -4,7 +4,7 @@ use crate::tests::Row;
 /// The first line.
 pub(crate) const IN_TITLE: &[Row] = &[
     (
-        "1 and 2: CR LF",
+        "1: CR LF",
         "linda-kt 1\r\n",
         r#"  linda-kt 1\r
             ^
@@ -66,6 +66,14 @@ pub(crate) const IN_TITLE: &[Row] = &[
 "#,
     ),
     (
+        "UTF-16",
+        "l\0i\0n\0\n",
+        r#"  l\x00i\x00n\x00
+  ^
+  the text is in UTF-16: save it as ASCII
+"#,
+    ),
+    (
         "93: a database without a line feed",
         "SQLite format 3\0\x10\0\x01\x01",
         r#"  SQLite format 3\x00\x10\x00\x01\x01
@@ -88,6 +96,16 @@ pub(crate) const IN_TITLE: &[Row] = &[
 "#,
     ),
 ];
+
+/// The first line, given to run.
+pub(crate) const IN_TITLE_OF_RUN: &[Row] = &[(
+    "2: CR LF in run",
+    "linda-kt 1\r\n",
+    r#"  linda-kt 1\r
+            ^
+  the line ends with CR LF: lines end with LF alone, so save the text with Unix line ends
+"#,
+)];
 
 /// The second line.
 pub(crate) const IN_SHARDS: &[Row] = &[
@@ -159,7 +177,7 @@ pub(crate) const IN_WORKERS: &[Row] = &[
         "worker w1\n",
         r#"  worker w1
         ^
-  this word stands alone on its line
+  this word stands alone on its line: take away what stands behind it
 "#,
     ),
     (

@@ -165,7 +165,7 @@ pub(crate) const IN_SCRIPT: &[Row] = &[
         "eval (\"a\")\n",
         r#"  eval ("a")
   ^
-  no such word can begin a line here, but one of these: out, in, rd, inp, rdp, set, unless, worker, steps
+  one of these is wanted here: out, in, rd, inp, rdp, set, unless, worker, steps
 "#,
     ),
     (

@@ -24,7 +24,7 @@ pub(crate) const IN_TUPLES: &[Row] = &[
         "out (\"a\", 1.5)\n",
         r#"  out ("a", 1.5)
              ^
-  no floats: values are ints, strs and bools
+  no floats: write an int, or a str as in `"1.5"`
 "#,
     ),
     (
@@ -104,7 +104,7 @@ pub(crate) const IN_TUPLES: &[Row] = &[
         "in (\"a\", ?int countUp)\n",
         r#"  in ("a", ?int countUp)
                      ^
-  a name has small letters, digits and `_` alone
+  a name has small letters, digits and `_` alone: write it so
 "#,
     ),
     (
@@ -112,7 +112,7 @@ pub(crate) const IN_TUPLES: &[Row] = &[
         "in (?int int)\n",
         r#"  in (?int int)
            ^
-  this word is no name: `int`, `str`, `bool`, `true` and `false` mean something else
+  `int`, `str`, `bool`, `true` and `false` are no names: take another name
 "#,
     ),
     (
@@ -218,7 +218,7 @@ pub(crate) const IN_TUPLES: &[Row] = &[
         "out (007)\n",
         r#"  out (007)
        ^
-  an int has no zeros in front
+  an int has no zeros in front: take them away
 "#,
     ),
     (
@@ -238,11 +238,21 @@ pub(crate) const IN_TUPLES: &[Row] = &[
 "#,
     ),
     (
+        "a long line",
+        "out (1.5, \"aaaaaaaaaaaaaaaaaaaaaaaaaaaaaaaaaaaaaaaaaaaaaaaaaaaaaaaaa\
+         aaa\", \"bbbbbbbbbbbbbbbbbbbbbbbbbbbbbbbbbbbbbbbbbbbbbbbbbbbbbbbbbbbb\")\n",
+        r#"  out (1.5, "aaaaaaaaaaaaaaaaaaaaaaaaaaaaaaaaaaaaaaaaaaaaaaaaaaaaaaaaaaaa", "bbbbbbbbbbbbbbbbbbbbbbbbb...
+        ^
+  no floats: write an int, or a str as in `"1.5"`
+"#,
+    ),
+    (
         "far to the right",
-        "out (\"aaaaaaaaaaaaaaaaaaaaaaaaaaaaaaaaaaaaaaaaaaaaaaaaaaaaaaaaaaaa\", \"bbbbbbbbbbbbbbbbbbbbbbbbbbbbbbbbbbbbbbbbbbbbbbbbbbbbbbbbbbbb\", 1.5, 1)\n",
+        "out (\"aaaaaaaaaaaaaaaaaaaaaaaaaaaaaaaaaaaaaaaaaaaaaaaaaaaaaaaaaaaa\"\
+         , \"bbbbbbbbbbbbbbbbbbbbbbbbbbbbbbbbbbbbbbbbbbbbbbbbbbbbbbbbbbbb\", 1.5, 1)\n",
         r#"  ...bbbbbbbbbbbbbbbbbbbbbbbbbbbbbbbbbbbbbbbbbbbbbb", 1.5, 1)
                                                        ^
-  no floats: values are ints, strs and bools
+  no floats: write an int, or a str as in `"1.5"`
 "#,
     ),
 ];

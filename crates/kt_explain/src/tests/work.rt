@@ -109,7 +109,7 @@ pub(crate) const IN_STEPS: &[Row] = &[
         "commit w1\n",
         r#"  commit w1
   ^
-  no such word can begin a line here, but one of these: issue, repeat, deliver, take, serve, check, decide, abandon, learn, fail, restart, end
+  one of these is wanted here: issue, repeat, deliver, take, serve, check, decide, abandon, learn, fail, restart, end
 "#,
     ),
     (
@@ -131,7 +131,7 @@ pub(crate) const IN_STEPS: &[Row] = &[
         "end of it\n",
         r#"  end of it
      ^
-  this word stands alone on its line
+  this word stands alone on its line: take away what stands behind it
 "#,
     ),
 ];

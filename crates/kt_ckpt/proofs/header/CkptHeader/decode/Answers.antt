@@ -1,3 +1,4 @@
+-- Of `CkptHeader::decode` in src/decode.rt.
 use Rattle.std.proofs.Common.{ap, subst, ◌∙◌}
 use Rattle.kt_ckpt.specs.Header.{HeaderFields, header_at}
 use Rattle.kt_ckpt.specs.Reading.{Gives}

@@ -1,3 +1,4 @@
+-- Of `Machine::at_once` in src/short_plans.rt.
 use Rattle.std.proofs.Common.{subst, sym}
 use Rattle.std.specs.Prelude.{IsOk, OnErr}
 use Rattle.kt_store.specs.Content.{Content}

@@ -1,3 +1,4 @@
+-- Of `Machine::carry_out_short` in src/short_plans.rt.
 use Rattle.std.proofs.Common.{◌≤◌, subst, sym, ◌∙◌, arith}
 use Rattle.std.specs.Prelude.{IfSome}
 use Rattle.kt_tuple.specs.declared.node.NodeId.{NodeId}

@@ -1,3 +1,4 @@
+-- Of `Machine::gathered_plan` in src/planning.rt.
 use Rattle.std.proofs.Common.{subst, sym}
 use Rattle.kt_store.specs.Content.{empty_content}
 use Rattle.kt_model.specs.StepPlan.{step_plan_by}

@@ -1,3 +1,4 @@
+-- Of `Machine::make_room_for_short` in src/short_plans.rt.
 use Rattle.std.proofs.Common.{subst}
 use Rattle.std.specs.Prelude.{None}
 use Rattle.kt_tuple.specs.declared.node.NodeId.{NodeId}

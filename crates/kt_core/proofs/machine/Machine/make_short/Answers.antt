@@ -1,3 +1,4 @@
+-- Of `Machine::make_short` in src/short_plans.rt.
 use Rattle.std.proofs.Common.{◌∙◌, ap, subst, sym}
 use Rattle.kt_node.specs.ShortPlan.{plan_of}
 use Rattle.kt_store.specs.Content.{empty_content}

@@ -1,3 +1,4 @@
+-- Of `Machine::owner_plan` in src/planning.rt.
 use Rattle.std.proofs.Common.{rules}
 use Rattle.kt_store.specs.Content.{empty_content}
 use Rattle.kt_node.specs.View.{view_of}

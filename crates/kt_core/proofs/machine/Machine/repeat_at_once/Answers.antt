@@ -1,3 +1,4 @@
+-- Of `Machine::repeat_at_once` in src/at_once.rt.
 use Rattle.std.proofs.Common.{subst, sym}
 use Rattle.kt_node.specs.AtOnce.{again_plan, said_plan}
 use Rattle.kt_store.specs.Content.{empty_content}

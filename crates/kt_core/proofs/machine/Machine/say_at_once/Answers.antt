@@ -1,3 +1,4 @@
+-- Of `Machine::say_at_once` in src/at_once.rt.
 use Rattle.std.proofs.Common.{◌∙◌, ap, subst, sym}
 use Rattle.kt_node.specs.AtOnce.{said_plan}
 use Rattle.kt_store.specs.Content.{empty_content}

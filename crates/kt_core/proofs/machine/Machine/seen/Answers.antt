@@ -1,3 +1,4 @@
+-- Of `Machine::seen` in src/planning.rt.
 use Rattle.kt_core.proofs.Seen.{acts-of, saves-of}
 use Rattle.kt_core.specs.auxiliary.Machine.{state_of}
 use Rattle.kt_store.specs.Content.{empty_content}

@@ -1,3 +1,4 @@
+-- Of `Machine::short` in src/short_plans.rt.
 use Rattle.std.proofs.Common.{◌≡◌, Ok, subst, sym}
 use Rattle.std.specs.Prelude.{IfOk, IfSome, IsOk, OnErr}
 use Rattle.kt_node.specs.ShortPlan.{plan_of}

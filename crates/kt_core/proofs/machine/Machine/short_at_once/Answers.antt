@@ -1,3 +1,4 @@
+-- Of `Machine::short_at_once` in src/short_plans.rt.
 use Rattle.std.proofs.Common.{◌≡◌, Ok, refl, subst, sym}
 use Rattle.std.specs.Prelude.{Option, IfSome}
 use Rattle.kt_node.specs.declared.short_plan.ShortPlan.{ShortPlan}

@@ -1,3 +1,4 @@
+-- Of `Machine::short_deliver` in src/short_plans.rt.
 use Rattle.std.proofs.Common.{rules, ◌≡◌, true, Some, Ok, subst}
 use Rattle.std.specs.Prelude.{slice_get}
 use Rattle.kt_state.specs.declared.message.Message.TheVariants as messages

@@ -1,3 +1,4 @@
+-- Of `World::resume_with` in src/resuming.rt.
 use Rattle.kt_refinement.proofs.Shared.{headline-reached}
 use Rattle.kt_core.proofs.Resumes.{resumed-goes, resumed-state, resumed-world}
 use Rattle.kt_core.proofs.world.World.resume_with.Goals as goal

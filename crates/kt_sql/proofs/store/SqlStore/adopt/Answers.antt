@@ -1,3 +1,4 @@
+-- Of `SqlStore::adopt` in src/open.rt.
 use Rattle.std.proofs.Common.{◌≡◌, ◌∙◌, Bool, Err, Result, sym, ap, subst}
 use Rattle.std.specs.Prelude.{◌↔◌, IsTrue}
 use Rattle.sqlite.specs.Held.{state}

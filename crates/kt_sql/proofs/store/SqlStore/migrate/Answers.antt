@@ -1,3 +1,4 @@
+-- Of `SqlStore::migrate` in src/migrating.rt.
 use Rattle.std.proofs.Common.{◌≡◌, sym, subst}
 use Rattle.sqlite.specs.Held.{state}
 use Rattle.sqlite.specs.State.{HasCleanDisk}

@@ -1,3 +1,4 @@
+-- Of `Tables::cells_of` in src/reads.rt.
 use Rattle.std.proofs.Common.{slice_get, ap, ◌∙◌}
 use Rattle.std.specs.List.{find}
 use Rattle.kt_tuple.specs.Node.{node_eq}

@@ -1,3 +1,4 @@
+-- Of `Tables::find_instance` in src/reads.rt.
 use Rattle.std.proofs.Common.{[], ◌∷◌, slice_get, sym, ap, ◌∙◌}
 use Rattle.sqlite.specs.Held.{state}
 use Rattle.sqlite.specs.State.{Shown}

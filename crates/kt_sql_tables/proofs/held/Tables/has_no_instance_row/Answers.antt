@@ -1,3 +1,4 @@
+-- Of `Tables::has_no_instance_row` in src/reads.rt.
 use Rattle.std.proofs.Common.{length, ◌==◌, ap, ◌∙◌}
 use Rattle.kt_sql_tables.proofs.Texts.{last_instance_row_is}
 use Rattle.kt_sql_tables.proofs.AnswerLemmas.{board_read}

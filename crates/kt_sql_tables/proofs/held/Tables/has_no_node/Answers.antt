@@ -1,3 +1,4 @@
+-- Of `Tables::has_no_node` in src/reads.rt.
 use Rattle.std.proofs.Common.{length, ◌==◌, ap, ◌∙◌}
 use Rattle.kt_sql_tables.proofs.Texts.{first_node_is}
 use Rattle.kt_sql_tables.proofs.AnswerLemmas.{nodes_read}

@@ -1,3 +1,4 @@
+-- Of `Tables::last_instance` in src/reads.rt.
 use Rattle.std.proofs.Common.{◌≡◌, slice_get, IfOk, subst, ap, ◌∙◌}
 use Rattle.kt_sql_tables.specs.Held.{content_of, is_sound}
 use Rattle.kt_sql_tables.proofs.Texts.{last_instance_row_is}

@@ -1,3 +1,4 @@
+-- Of `Tables::nodes` in src/reads.rt.
 use Rattle.std.proofs.Common.{◌∙◌}
 use Rattle.kt_sql_tables.specs.Held.{is_sound}
 use Rattle.kt_sql_tables.proofs.Texts.{all_ids_is}

@@ -1,3 +1,4 @@
+-- Of `Tables::rows_of` in src/reads.rt.
 use Rattle.std.proofs.Common.{[], ◌∷◌, None, Option, IfOk, refl, sym, subst}
 use Rattle.std.specs.List.{find}
 use Rattle.sqlite.specs.Held.{state}

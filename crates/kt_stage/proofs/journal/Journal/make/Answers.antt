@@ -1,3 +1,4 @@
+-- Of `Journal::make` in src/locked_journal.rt.
 use Rattle.std.proofs.Common.{subst}
 use Rattle.kt_model.specs.StepPlan.{step_plan}
 use Rattle.kt_stage.specs.Acting.{RefusesStep}

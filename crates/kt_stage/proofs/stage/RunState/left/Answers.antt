@@ -1,3 +1,4 @@
+-- Of `RunState::left` in src/node_thread.rt.
 use Rattle.kt_stage.proofs.Halts.{asked-since}
 use Rattle.kt_stage.proofs.stage.RunState.left.Goals as goal
 

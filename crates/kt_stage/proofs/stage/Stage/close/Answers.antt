@@ -1,3 +1,4 @@
+-- Of `Stage::close` in src/closing.rt.
 use Rattle.std.proofs.Common.{ap, ◌∙◌}
 use Rattle.kt_stage.specs.auxiliary.Midway.{IsClosed}
 use Rattle.kt_stage.specs.Journal.{Journal}
