@@ -1,5 +1,5 @@
 //! What is said beside the line of a fault: why it came, and what to do.
-//! Cited by carrying.rt, request.rt, running.rt; kt_quick; whoever calls the trait `Observer`.
+//! Cited by carrying.rt, request.rt, running.rt; other crates; whoever calls the trait `Observer`.
 
 ghost use Rattle.std.specs.Prelude.{◌≡◌, ◌≢◌};
 

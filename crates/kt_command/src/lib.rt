@@ -6,7 +6,6 @@
 //!   that was opened at the path that is named. A store of the version before is carried over by the journal that made
 //!   it (`carry_over`, clause `told`).
 //! - Stands on: kt_text, kt_store, kt_model, kt_core, kt_scene, kt_stage, kt_run
-//! - Used by: linda_kt, kt_quick
 //! - Begin in: `request.rt`, then `running.rt` and `carrying.rt`, and `status.rt` for the exit statuses.
 #![tactic(auto)]
 

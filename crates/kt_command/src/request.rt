@@ -1,5 +1,5 @@
 //! What a program is asked to do, and over which store it does so.
-//! Cited by carrying.rt; linda_kt.
+//! Cited by carrying.rt; other crates.
 ghost use Rattle.std.specs.Prelude.{◌≡◌};
 ghost use Rattle.kt_command.specs.Asking.{asked};
 ghost use Rattle.kt_command.specs.Opened.{EndsAsked, EndsOpened};

@@ -1,5 +1,5 @@
 //! The forms of commands.
-//! Cited by limit.rt.
+//! Cited by limit.rt, script_word.rt.
 
 use crate::finding::Finding;
 use crate::name::name_in_front;

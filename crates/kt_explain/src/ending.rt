@@ -1,5 +1,5 @@
 //! How a text ends.
-//! Cited by no other file of crates/.
+//! Cited by explain.rt.
 
 use crate::case::Case;
 use crate::finding::{Finding, from_first};

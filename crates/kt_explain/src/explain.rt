@@ -1,5 +1,5 @@
 //! A fault of a text, explained.
-//! Cited by no other file of crates/.
+//! Cited by other crates.
 
 ghost use Rattle.std.specs.Prelude.{◌≡◌, [], IfOk, OnOk};
 ghost use Rattle.kt_explain.specs.Shown.{IsPlain};

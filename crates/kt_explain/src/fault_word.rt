@@ -1,5 +1,5 @@
 //! Lines that no rule allows among fault lines.
-//! Cited by limit.rt.
+//! Cited by explain.rt, limit.rt.
 
 use crate::case::Case;
 use crate::finding::{Finding, word_in_front};

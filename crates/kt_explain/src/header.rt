@@ -1,5 +1,5 @@
 //! The first two lines.
-//! Cited by ending.rt.
+//! Cited by ending.rt, explain.rt.
 
 use crate::case::Case;
 use crate::finding::{Finding, word_in_front};

@@ -4,7 +4,6 @@
 //!   The word that `nearest` gives is one of those handed in, and none of them is nearer. `part_of` gives the part to
 //!   which the lines above lead. What an answer says is tested and not proved.
 //! - Stands on: kt_tuple, kt_script, kt_scenario, kt_text; of the kit: strsim
-//! - Used by: none
 //! - Begin in: `explain.rt`, which goes by the fault, then `part.rt` for where a line stands. `reason.rt` has what is
 //!   said, and the other files find which of it is meant.
 #![tactic(auto)]

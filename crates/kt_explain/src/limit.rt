@@ -1,5 +1,5 @@
 //! Limits that are passed, and nodes that are not there.
-//! Cited by no other file of crates/.
+//! Cited by explain.rt.
 
 use crate::case::Case;
 use crate::command_form::constant_of;

@@ -1,5 +1,5 @@
 //! Lines that no rule allows among the workers and their commands.
-//! Cited by no other file of crates/.
+//! Cited by explain.rt.
 
 use crate::case::Case;
 use crate::command_form::finding_in_command;

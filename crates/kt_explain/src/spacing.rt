@@ -1,5 +1,5 @@
 //! Mistakes that any line may have: how it ends, its spaces, and remarks.
-//! Cited by tuple.rt.
+//! Cited by explain.rt, header.rt, tuple.rt.
 
 use crate::finding::{Finding, from_first};
 use crate::reason::{REMARK_BEHIND, Reason};

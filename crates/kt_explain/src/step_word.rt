@@ -1,5 +1,5 @@
 //! Lines that no rule allows among steps.
-//! Cited by fault_word.rt.
+//! Cited by explain.rt, fault_word.rt.
 
 use crate::case::Case;
 use crate::finding::{Finding, word_in_front};

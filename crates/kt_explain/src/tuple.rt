@@ -1,5 +1,5 @@
 //! Where a tuple or a template breaks off, and why.
-//! Cited by no other file of crates/.
+//! Cited by explain.rt.
 
 use crate::finding::{Finding, from_first};
 use crate::name::{letters_in_front, name_in_front};

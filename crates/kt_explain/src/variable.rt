@@ -1,5 +1,5 @@
 //! Names that break the rules of variables.
-//! Cited by no other file of crates/.
+//! Cited by explain.rt.
 
 use crate::case::{Above, Case};
 use crate::finding::Finding;

@@ -3,7 +3,6 @@
 //! - Contract: all lost services of a history, oldest first, each with the one cut that lost it: just before the cut
 //!   nothing of the service's past was lost, just after it a part was (`losses`, clauses `each`, `all` and `order`).
 //! - Stands on: kt_tuple, kt_history
-//! - Used by: none
 //! - Begin in: `loss.rt`. `blame.rt` finds the cut of each act.
 #![tactic(auto)]
 

@@ -4,7 +4,6 @@
 //! - Contract: `run_arguments`, clause `told`: words that name a command do it over a fresh store in memory, by the
 //!   same call as `linda_kt`. Any other words end with status 2, and nothing is read or written.
 //! - Stands on: kt_scene, kt_run, kt_command
-//! - Used by: none
 //! - Begin in: `program.rt`.
 #![tactic(auto)]
 

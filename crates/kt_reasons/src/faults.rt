@@ -1,5 +1,5 @@
 //! Faults that no line of the text has, in words: of the store, of memory and of the streams.
-//! Cited by kt_command.
+//! Cited by other crates.
 
 use crate::names::Name;
 use crate::reasons::meaning_of_store;

@@ -4,7 +4,6 @@
 //!   at by reference, so it changes nothing.
 //! - Stands on: kt_tuple, kt_space, kt_shard, kt_worker, kt_vote, kt_scenario, kt_text, kt_store, kt_node, kt_core,
 //!   kt_scene
-//! - Used by: kt_command
 //! - Begin in: `refused.rt` for steps and `faults.rt` for stores and streams; `reasons.rt` goes by the refusal.
 #![tactic(auto)]
 

@@ -1,5 +1,5 @@
 //! A step that was refused: its line, and the reason in words.
-//! Cited by kt_command.
+//! Cited by other crates.
 
 use crate::reasons::push_reason;
 use kt_core::{Step, StepError, World};

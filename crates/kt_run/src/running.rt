@@ -1,5 +1,5 @@
 //! From the bytes of a scenario to the bytes that tell of its run.
-//! Cited by kt_command, kt_quick.
+//! Cited by other crates.
 
 ghost use Rattle.std.specs.Prelude.{◌≡◌, Err, IfErr, IfOk, IsTrue, None, OnOk, Some};
 ghost use Rattle.kt_scene.specs.declared.fault.ReplayFault.TheVariants as text_faults;

@@ -1,6 +1,5 @@
 //! The steps of a world.
-//! Cited by faults.rt, scene.rt; kt_command, kt_core, kt_explain, kt_memory_tests, kt_reasons, kt_resume, kt_scene,
-//!   kt_stage, kt_text.
+//! Cited by faults.rt, scene.rt; other crates.
 
 ghost use Rattle.std.specs.Prelude.{◌≡◌};
 

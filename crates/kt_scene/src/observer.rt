@@ -1,5 +1,5 @@
 //! Who is told what a command meets on its way.
-//! Cited by replaying.rt; kt_command, kt_run; whoever calls the trait `Observer`.
+//! Cited by replaying.rt; other crates; whoever calls the trait `Observer`.
 
 use crate::fault::ReplayFault;
 use kt_core::{Step, World};

@@ -1,5 +1,5 @@
 //! From the bytes of a scenario to the bytes of its report.
-//! Cited by kt_command.
+//! Cited by other crates.
 
 ghost use Rattle.std.specs.Prelude.{◌≡◌, ◌≢◌, Err, IfOk, IfErr, IsTrue, OnOk};
 ghost use Rattle.kt_text.specs.Work.{steps_of};
