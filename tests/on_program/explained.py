@@ -11,7 +11,7 @@ from on_program.starting import FOLDER, ROOT, start, tell, told
 TESTS = f"{ROOT}/crates/kt_explain/src/tests"
 ESCAPES = {"n": "\n", "r": "\r", "t": "\t", '"': '"', "\\": "\\", "0": "\0"}
 LITERAL = re.compile(r'r#"(?P<raw>.*?)"#|"(?P<plain>(?:[^"\\]|\\.)*)"', re.DOTALL)
-TABLE = re.compile(r"(?:const|static) (\w+): &\[Row\] = &\[(.*?)\n\];", re.DOTALL)
+TABLE = re.compile(r"(?:const|static) (\w+): &\[Row\] = &\[(.*?)\]?\)?\];\n", re.DOTALL)
 CALL = re.compile(r'assert_said\(\s*&rt,\s*alloc,\s*(\w+|"(?:[^"\\]|\\.)*"),\s*WorkKind::(\w+),\s*(\w+),?\s*\)')
 CONSTANT = re.compile(r'const (\w+): &str = ("(?:[^"\\]|\\.)*");', re.DOTALL)
 WORDS = {"Steps": "replay", "Faults": "run"}
