@@ -36,5 +36,5 @@ mod words;
 
 pub use explain::explain_text;
 pub use meaning::{Meaning, MeaningKind, explain_number, meanings};
-pub use near::nearest;
+pub use near::{MAX_EDITS, nearest};
 pub use part::{Part, part_of};

@@ -1,7 +1,7 @@
 //! Which word was meant by one that is misspelt.
 //! Cited by fault_word.rt, header.rt, script_word.rt, step_word.rt.
 
-ghost use Rattle.std.specs.Prelude.{◌≡◌, ◌≤◌, ◌<◌, IfOk, IfSome, IfNone, All, length, map};
+ghost use Rattle.std.specs.Prelude.{◌≡◌, ◌≤◌, ◌<◌, ◌+◌, IfOk, IfSome, IfNone, All, length, map, min};
 ghost use Rattle.std.specs.Char.{to_ascii_lowercase};
 ghost use Rattle.kt_explain.specs.Near.{edits, IsNearest};
 
@@ -9,7 +9,7 @@ use std::alloc::{AllocError, Global};
 use strsim::generic_levenshtein;
 
 /// The most edits, each of one character, that lead from a word that is meant to what was written.
-const MAX_EDITS: usize = 2;
+pub const MAX_EDITS: usize = 2;
 
 /// The longest word that is compared with others: no word of a scenario is so long.
 const MAX_LENGTH: usize = 16;
@@ -22,8 +22,11 @@ pub fn nearest<'a>(
     word: &[u8],
     words: &'a [&'a str],
 ) -> Result<Option<&'a str>, AllocError>
-    ensures { IfOk result (λ found. IfSome found (λ meant.
+    ensures nearest { IfOk result (λ found. IfSome found (λ meant.
         IsNearest (map to_ascii_lowercase word.now) (map (λ w. w.now) words.now) meant.now)) }
+    // Not more than `MAX_EDITS` edits, and fewer than the word has characters.
+    ensures near { IfOk result (λ found. IfSome found (λ meant.
+        edits (map to_ascii_lowercase word.now) meant.now < min (length word.now) (MAX_EDITS + 1))) }
 {
     if word.len() > MAX_LENGTH {
         return Ok(None);

@@ -1,7 +1,7 @@
 //! A line as it is shown, and the caret under a byte of it.
 //! Cited by explain.rt.
 
-ghost use Rattle.std.specs.Prelude.{◌≡◌, ◌++◌, OnOk, IsTrue};
+ghost use Rattle.std.specs.Prelude.{OnOk, IsTrue};
 ghost use Rattle.kt_explain.specs.Shown.{IsPlain, is_plain_byte};
 
 use std::alloc::AllocError;

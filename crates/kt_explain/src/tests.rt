@@ -1,4 +1,4 @@
-//! Mistakes that people make, and all that is said of each; the numbers are those of a list of them that was gathered.
+//! Mistakes that people make, and all that is said of each.
 mod heads;
 mod scripts;
 mod tuples;
@@ -18,65 +18,85 @@ use std::test::Fail;
 /// What the mistake is, the line that has it, and what is said of it.
 pub(crate) type Row = (&'static str, &'static str, &'static str);
 
-/// What stands above the lines, the kind of work that is wanted, and the mistakes.
-const TABLE: &[(&str, WorkKind, &[Row])] = &[
-    ("", WorkKind::Steps, IN_TITLE),
-    ("", WorkKind::Faults, IN_TITLE_OF_RUN),
-    ("linda-kt 1\n", WorkKind::Steps, IN_SHARDS),
-    ("linda-kt 1\nshards 1\n", WorkKind::Steps, IN_WORKERS),
-    (
-        "linda-kt 1\nshards 1\nworker\nsteps\nend\n",
-        WorkKind::Steps,
-        BEHIND_END,
-    ),
-    (
-        "linda-kt 1\nshards 1\nworker\nout (\"a\", 1)\nin (\"a\", ?int x)\n",
-        WorkKind::Steps,
-        IN_SCRIPT,
-    ),
-    (
-        "linda-kt 1\nshards 1\nworker\nout (\"a\", 1)\nin (\"a\", ?int x)\n",
-        WorkKind::Faults,
-        IN_SCRIPT_OF_RUN,
-    ),
-    (
-        "# survivors 0\n# lost 0\n# space 0\n# permanent 0\nlinda-kt 1\nshards 1\nworker\nout (\"a\", 1)\n",
-        WorkKind::Faults,
-        IN_JOURNAL,
-    ),
-    (
-        "# resumed after instance 2\n# survivors 0\nlinda-kt 1\nshards 1\nworker\n",
-        WorkKind::Faults,
-        IN_RESUMED,
-    ),
-    (
-        "linda-kt 1\nshards 1\nworker\nin (?int n, ?str s, ?bool b)\nset m = n + 1\n# a remark\n",
-        WorkKind::Steps,
-        IN_NAMES,
-    ),
-    ("linda-kt 1\nshards 1\nworker\n", WorkKind::Steps, IN_TUPLES),
-    (
-        "linda-kt 1\nshards 1\nworker\nout (\"a\", 1)\nin (\"a\", ?int x)\nsteps\n",
-        WorkKind::Steps,
-        IN_STEPS,
-    ),
-    (
-        "linda-kt 1\nshards 1\nworker\nout (\"a\", 1)\nin (\"a\", ?int x)\nfaults\n",
-        WorkKind::Faults,
-        IN_FAULTS,
-    ),
-    (
-        "# three\nlinda-kt 1\nshards 3\nworker\nworker\nfaults\n",
-        WorkKind::Faults,
-        IN_MORE_NODES,
-    ),
-];
+/// Two commands, the second of which binds `x` to ints.
+const SCRIPT: &str = "linda-kt 1\nshards 1\nworker\nout (\"a\", 1)\nin (\"a\", ?int x)\n";
+
+/// A script, and the line before its steps.
+const STEPS: &str = "linda-kt 1\nshards 1\nworker\nout (\"a\", 1)\nin (\"a\", ?int x)\nsteps\n";
+
+/// A script, and the line before its fault lines.
+const FAULTS: &str = "linda-kt 1\nshards 1\nworker\nout (\"a\", 1)\nin (\"a\", ?int x)\nfaults\n";
+
+/// The head of a journal.
+const JOURNAL: &str = "# survivors 0\n# lost 0\n# space 0\n# permanent 0\n\
+linda-kt 1\nshards 1\nworker\nout (\"a\", 1)\n";
+
+/// The head of a journal of a run that went on.
+const RESUMED: &str = "# resumed after instance 2\n# survivors 0\nlinda-kt 1\nshards 1\nworker\n";
+
+/// A script that binds names to values of all kinds.
+const NAMES: &str = "linda-kt 1\nshards 1\nworker\n\
+in (?int n, ?str s, ?bool b)\nset m = n + 1\n# a remark\n";
+
+/// A scenario of two workers and three shards.
+const MORE_NODES: &str = "# three\nlinda-kt 1\nshards 3\nworker\nworker\nfaults\n";
+
+/// A whole scenario.
+const WHOLE: &str = "linda-kt 1\nshards 1\nworker\nsteps\nend\n";
 
 #[test]
-fn each_mistake_is_named(rt: HostRuntime) -> Result<(), Fail> {
-    for (above, kind, rows) in TABLE {
-        assert_said(&rt, rt.alloc(), above, *kind, rows)?;
-    }
+fn each_mistake_above_the_commands_is_named(rt: HostRuntime) -> Result<(), Fail> {
+    let alloc = rt.alloc();
+    assert_said(&rt, alloc, "", WorkKind::Steps, IN_TITLE)?;
+    assert_said(&rt, alloc, "", WorkKind::Faults, IN_TITLE_OF_RUN)?;
+    assert_said(&rt, alloc, "linda-kt 1\n", WorkKind::Steps, IN_SHARDS)?;
+    assert_said(
+        &rt,
+        alloc,
+        "linda-kt 1\nshards 1\n",
+        WorkKind::Steps,
+        IN_WORKERS,
+    )?;
+    Ok(())
+}
+
+#[test]
+fn each_mistake_among_the_commands_is_named(rt: HostRuntime) -> Result<(), Fail> {
+    let alloc = rt.alloc();
+    assert_said(&rt, alloc, SCRIPT, WorkKind::Steps, IN_SCRIPT)?;
+    assert_said(&rt, alloc, SCRIPT, WorkKind::Faults, IN_SCRIPT_OF_RUN)?;
+    assert_said(&rt, alloc, NAMES, WorkKind::Steps, IN_NAMES)?;
+    Ok(())
+}
+
+#[test]
+fn each_mistake_in_a_tuple_is_named(rt: HostRuntime) -> Result<(), Fail> {
+    let alloc = rt.alloc();
+    assert_said(
+        &rt,
+        alloc,
+        "linda-kt 1\nshards 1\nworker\n",
+        WorkKind::Steps,
+        IN_TUPLES,
+    )?;
+    Ok(())
+}
+
+#[test]
+fn each_mistake_in_the_work_is_named(rt: HostRuntime) -> Result<(), Fail> {
+    let alloc = rt.alloc();
+    assert_said(&rt, alloc, STEPS, WorkKind::Steps, IN_STEPS)?;
+    assert_said(&rt, alloc, FAULTS, WorkKind::Faults, IN_FAULTS)?;
+    assert_said(&rt, alloc, MORE_NODES, WorkKind::Faults, IN_MORE_NODES)?;
+    assert_said(&rt, alloc, WHOLE, WorkKind::Steps, BEHIND_END)?;
+    Ok(())
+}
+
+#[test]
+fn journals_given_to_a_run_are_named(rt: HostRuntime) -> Result<(), Fail> {
+    let alloc = rt.alloc();
+    assert_said(&rt, alloc, JOURNAL, WorkKind::Faults, IN_JOURNAL)?;
+    assert_said(&rt, alloc, RESUMED, WorkKind::Faults, IN_RESUMED)?;
     Ok(())
 }
 

@@ -2,9 +2,9 @@
 use crate::tests::Row;
 
 /// The first line.
-pub(crate) const IN_TITLE: &[Row] = &[
+pub(crate) static IN_TITLE: &[Row] = &[
     (
-        "1: CR LF",
+        "CR LF",
         "linda-kt 1\r\n",
         r#"  linda-kt 1\r
             ^
@@ -12,7 +12,7 @@ pub(crate) const IN_TITLE: &[Row] = &[
 "#,
     ),
     (
-        "3: a byte order mark",
+        "a byte order mark",
         "\u{feff}linda-kt 1\n",
         r#"  \xef\xbb\xbflinda-kt 1
   ^
@@ -20,7 +20,7 @@ pub(crate) const IN_TITLE: &[Row] = &[
 "#,
     ),
     (
-        "13: the title forgotten",
+        "the title forgotten",
         "shards 1\n",
         r#"  shards 1
   ^
@@ -28,7 +28,7 @@ pub(crate) const IN_TITLE: &[Row] = &[
 "#,
     ),
     (
-        "14: another version",
+        "another version",
         "linda-kt 2\n",
         r#"  linda-kt 2
            ^
@@ -44,13 +44,13 @@ pub(crate) const IN_TITLE: &[Row] = &[
 "#,
     ),
     (
-        "59: nothing",
+        "nothing",
         "",
         r#"  nothing was read: the scenario comes on standard input, as in `linda_kt replay < FILE`
 "#,
     ),
     (
-        "92: a report",
+        "a report",
         "survivors 2\n",
         r#"  survivors 2
   ^
@@ -58,7 +58,7 @@ pub(crate) const IN_TITLE: &[Row] = &[
 "#,
     ),
     (
-        "93: a database",
+        "a database",
         "SQLite format 3\0\x10\0\x01\x01\n",
         r#"  SQLite format 3\x00\x10\x00\x01\x01
   ^
@@ -74,7 +74,7 @@ pub(crate) const IN_TITLE: &[Row] = &[
 "#,
     ),
     (
-        "93: a database without a line feed",
+        "a database without a line feed",
         "SQLite format 3\0\x10\0\x01\x01",
         r#"  SQLite format 3\x00\x10\x00\x01\x01
   ^
@@ -98,8 +98,8 @@ pub(crate) const IN_TITLE: &[Row] = &[
 ];
 
 /// The first line, given to run.
-pub(crate) const IN_TITLE_OF_RUN: &[Row] = &[(
-    "2: CR LF in run",
+pub(crate) static IN_TITLE_OF_RUN: &[Row] = &[(
+    "CR LF in run",
     "linda-kt 1\r\n",
     r#"  linda-kt 1\r
             ^
@@ -108,9 +108,9 @@ pub(crate) const IN_TITLE_OF_RUN: &[Row] = &[(
 )];
 
 /// The second line.
-pub(crate) const IN_SHARDS: &[Row] = &[
+pub(crate) static IN_SHARDS: &[Row] = &[
     (
-        "15: the shards forgotten",
+        "the shards forgotten",
         "worker\n",
         r#"  worker
   ^
@@ -118,7 +118,7 @@ pub(crate) const IN_SHARDS: &[Row] = &[
 "#,
     ),
     (
-        "16: `shard`",
+        "`shard`",
         "shard 1\n",
         r#"  shard 1
   ^
@@ -126,7 +126,7 @@ pub(crate) const IN_SHARDS: &[Row] = &[
 "#,
     ),
     (
-        "17: nine shards",
+        "nine shards",
         "shards 9\n",
         r#"  shards 9
          ^
@@ -150,14 +150,14 @@ pub(crate) const IN_SHARDS: &[Row] = &[
 ];
 
 /// Where the first worker is wanted.
-pub(crate) const IN_WORKERS: &[Row] = &[
+pub(crate) static IN_WORKERS: &[Row] = &[
     (
-        "6: a space at the end",
+        "a space at the end",
         "worker \n",
         "  worker \n        ^\n  a space at the end of the line: take it away\n",
     ),
     (
-        "58: no worker",
+        "no worker",
         "steps\n",
         r#"  steps
   ^
@@ -189,14 +189,14 @@ pub(crate) const IN_WORKERS: &[Row] = &[
 ];
 
 /// Behind `end`.
-pub(crate) const BEHIND_END: &[Row] = &[
+pub(crate) static BEHIND_END: &[Row] = &[
     (
-        "8: an empty line at the end",
+        "an empty line at the end",
         "\n",
         "  \n  ^\n  an empty line behind `end`: take it away\n",
     ),
     (
-        "63: a second scenario",
+        "a second scenario",
         "linda-kt 1\n",
         r#"  linda-kt 1
   ^

@@ -2,9 +2,9 @@
 use crate::tests::Row;
 
 /// Where commands are wanted, in a scenario of steps.
-pub(crate) const IN_SCRIPT: &[Row] = &[
+pub(crate) static IN_SCRIPT: &[Row] = &[
     (
-        "4: a tab",
+        "a tab",
         "out\t(\"a\", 1)\n",
         r#"  out\t("a", 1)
      ^
@@ -12,7 +12,7 @@ pub(crate) const IN_SCRIPT: &[Row] = &[
 "#,
     ),
     (
-        "5: indented",
+        "indented",
         "  out (\"a\", 1)\n",
         r#"    out ("a", 1)
   ^
@@ -20,12 +20,12 @@ pub(crate) const IN_SCRIPT: &[Row] = &[
 "#,
     ),
     (
-        "7: an empty line",
+        "an empty line",
         "\n",
         "  \n  ^\n  an empty line: take it away, or write `#` on it\n",
     ),
     (
-        "11: a remark behind a command",
+        "a remark behind a command",
         "set y = x + 1 # more\n",
         r#"  set y = x + 1 # more
                 ^
@@ -33,7 +33,7 @@ pub(crate) const IN_SCRIPT: &[Row] = &[
 "#,
     ),
     (
-        "12: an indented remark",
+        "an indented remark",
         " # more\n",
         r#"   # more
   ^
@@ -41,7 +41,7 @@ pub(crate) const IN_SCRIPT: &[Row] = &[
 "#,
     ),
     (
-        "18: large letters",
+        "large letters",
         "OUT (\"a\", 1)\n",
         r#"  OUT ("a", 1)
   ^
@@ -49,7 +49,7 @@ pub(crate) const IN_SCRIPT: &[Row] = &[
 "#,
     ),
     (
-        "19: `put`, which is near to `out`",
+        "`put`, which is near to `out`",
         "put (\"a\", 1)\n",
         r#"  put ("a", 1)
   ^
@@ -57,7 +57,7 @@ pub(crate) const IN_SCRIPT: &[Row] = &[
 "#,
     ),
     (
-        "34: minus",
+        "minus",
         "set x = x - 1\n",
         r#"  set x = x - 1
            ^
@@ -65,7 +65,7 @@ pub(crate) const IN_SCRIPT: &[Row] = &[
 "#,
     ),
     (
-        "35: a constant",
+        "a constant",
         "set x = 5\n",
         r#"  set x = 5
           ^
@@ -73,7 +73,7 @@ pub(crate) const IN_SCRIPT: &[Row] = &[
 "#,
     ),
     (
-        "36: no spaces around +",
+        "no spaces around +",
         "set x = x+1\n",
         r#"  set x = x+1
            ^
@@ -121,7 +121,7 @@ pub(crate) const IN_SCRIPT: &[Row] = &[
 "#,
     ),
     (
-        "37: unless 0",
+        "unless 0",
         "unless 0\n",
         r#"  unless 0
          ^
@@ -137,7 +137,7 @@ pub(crate) const IN_SCRIPT: &[Row] = &[
 "#,
     ),
     (
-        "51: fault lines given to replay",
+        "fault lines given to replay",
         "faults\n",
         r#"  faults
   ^
@@ -145,7 +145,7 @@ pub(crate) const IN_SCRIPT: &[Row] = &[
 "#,
     ),
     (
-        "57: `steps` left out",
+        "`steps` left out",
         "issue w1\n",
         r#"  issue w1
   ^
@@ -153,7 +153,7 @@ pub(crate) const IN_SCRIPT: &[Row] = &[
 "#,
     ),
     (
-        "57: `steps` left out, and no step",
+        "`steps` left out, and no step",
         "end\n",
         r#"  end
   ^
@@ -209,9 +209,9 @@ pub(crate) const IN_SCRIPT: &[Row] = &[
 ];
 
 /// Where commands are wanted, in a scenario of fault lines.
-pub(crate) const IN_SCRIPT_OF_RUN: &[Row] = &[
+pub(crate) static IN_SCRIPT_OF_RUN: &[Row] = &[
     (
-        "52: steps given to run",
+        "steps given to run",
         "steps\n",
         r#"  steps
   ^
@@ -219,7 +219,7 @@ pub(crate) const IN_SCRIPT_OF_RUN: &[Row] = &[
 "#,
     ),
     (
-        "56: `faults` left out",
+        "`faults` left out",
         "end\n",
         r#"  end
   ^
@@ -227,7 +227,7 @@ pub(crate) const IN_SCRIPT_OF_RUN: &[Row] = &[
 "#,
     ),
     (
-        "56: `faults` left out before a fault line",
+        "`faults` left out before a fault line",
         "fail w1 after 3\n",
         r#"  fail w1 after 3
   ^
@@ -251,8 +251,8 @@ pub(crate) const IN_SCRIPT_OF_RUN: &[Row] = &[
 ];
 
 /// A journal that is given to run.
-pub(crate) const IN_JOURNAL: &[Row] = &[(
-    "91: a journal given to run",
+pub(crate) static IN_JOURNAL: &[Row] = &[(
+    "a journal given to run",
     "steps\n",
     r#"  steps
   ^
@@ -261,8 +261,8 @@ pub(crate) const IN_JOURNAL: &[Row] = &[(
 )];
 
 /// A journal of a run that went on.
-pub(crate) const IN_RESUMED: &[Row] = &[(
-    "91: the journal of a run that went on",
+pub(crate) static IN_RESUMED: &[Row] = &[(
+    "the journal of a run that went on",
     "steps\n",
     r#"  steps
   ^
@@ -271,9 +271,9 @@ pub(crate) const IN_RESUMED: &[Row] = &[(
 )];
 
 /// The rules of names.
-pub(crate) const IN_NAMES: &[Row] = &[
+pub(crate) static IN_NAMES: &[Row] = &[
     (
-        "31: a name that is not bound",
+        "a name that is not bound",
         "out (\"a\", y)\n",
         r#"  out ("a", y)
             ^

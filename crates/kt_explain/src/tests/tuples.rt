@@ -2,9 +2,9 @@
 use crate::tests::Row;
 
 /// Tuples and templates.
-pub(crate) const IN_TUPLES: &[Row] = &[
+pub(crate) static IN_TUPLES: &[Row] = &[
     (
-        "21: no space after the comma",
+        "no space after the comma",
         "out (\"a\",1)\n",
         r#"  out ("a",1)
            ^
@@ -12,7 +12,7 @@ pub(crate) const IN_TUPLES: &[Row] = &[
 "#,
     ),
     (
-        "22: single quotes",
+        "single quotes",
         "out ('a', 1)\n",
         r#"  out ('a', 1)
        ^
@@ -20,7 +20,7 @@ pub(crate) const IN_TUPLES: &[Row] = &[
 "#,
     ),
     (
-        "23: a float",
+        "a float",
         "out (\"a\", 1.5)\n",
         r#"  out ("a", 1.5)
              ^
@@ -28,7 +28,7 @@ pub(crate) const IN_TUPLES: &[Row] = &[
 "#,
     ),
     (
-        "24: `True`",
+        "`True`",
         "out (\"a\", True)\n",
         r#"  out ("a", True)
             ^
@@ -36,7 +36,7 @@ pub(crate) const IN_TUPLES: &[Row] = &[
 "#,
     ),
     (
-        "25: an empty tuple",
+        "an empty tuple",
         "out ()\n",
         r#"  out ()
       ^
@@ -44,7 +44,7 @@ pub(crate) const IN_TUPLES: &[Row] = &[
 "#,
     ),
     (
-        "26: a formal in `out`",
+        "a formal in `out`",
         "out (\"a\", ?int)\n",
         r#"  out ("a", ?int)
             ^
@@ -52,7 +52,7 @@ pub(crate) const IN_TUPLES: &[Row] = &[
 "#,
     ),
     (
-        "27: too many places",
+        "too many places",
         "out (1, 2, 3, 4, 5, 6, 7, 8, 9, 10, 11, 12, 13, 14, 15, 16, 17)\n",
         r#"  out (1, 2, 3, 4, 5, 6, 7, 8, 9, 10, 11, 12, 13, 14, 15, 16, 17)
                                                               ^
@@ -60,7 +60,7 @@ pub(crate) const IN_TUPLES: &[Row] = &[
 "#,
     ),
     (
-        "28: too long a str",
+        "too long a str",
         "out (\"aaaaaaaaaaaaaaaaaaaaaaaaaaaaaaaaaaaaaaaaaaaaaaaaaaaaaaaaaaaaaaaaa\")\n",
         r#"  out ("aaaaaaaaaaaaaaaaaaaaaaaaaaaaaaaaaaaaaaaaaaaaaaaaaaaaaaaaaaaaaaaaa")
        ^
@@ -68,7 +68,7 @@ pub(crate) const IN_TUPLES: &[Row] = &[
 "#,
     ),
     (
-        "29: an umlaut",
+        "an umlaut",
         "out (\"\u{e4}\")\n",
         r#"  out ("\xc3\xa4")
         ^
@@ -76,7 +76,7 @@ pub(crate) const IN_TUPLES: &[Row] = &[
 "#,
     ),
     (
-        "30: an int too great",
+        "an int too great",
         "out (\"a\", 9223372036854775808)\n",
         r#"  out ("a", 9223372036854775808)
             ^
@@ -84,7 +84,7 @@ pub(crate) const IN_TUPLES: &[Row] = &[
 "#,
     ),
     (
-        "32: too long a name",
+        "too long a name",
         "in (?int abcdefghijklmnopq)\n",
         r#"  in (?int abcdefghijklmnopq)
            ^
@@ -92,7 +92,7 @@ pub(crate) const IN_TUPLES: &[Row] = &[
 "#,
     ),
     (
-        "33: a large letter",
+        "a large letter",
         "in (?int Xy)\n",
         r#"  in (?int Xy)
            ^
@@ -132,7 +132,7 @@ pub(crate) const IN_TUPLES: &[Row] = &[
 "#,
     ),
     (
-        "11: a remark behind a tuple",
+        "a remark behind a tuple",
         "out (\"a\", 1) # one\n",
         r#"  out ("a", 1) # one
                ^
@@ -140,12 +140,12 @@ pub(crate) const IN_TUPLES: &[Row] = &[
 "#,
     ),
     (
-        "6: a space behind a tuple",
+        "a space behind a tuple",
         "out (\"a\", 1) \n",
         "  out (\"a\", 1) \n              ^\n  a space at the end of the line: take it away\n",
     ),
     (
-        "1: CR behind a tuple",
+        "CR behind a tuple",
         "out (\"a\", 1)\r\n",
         r#"  out ("a", 1)\r
               ^

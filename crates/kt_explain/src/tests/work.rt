@@ -2,9 +2,9 @@
 use crate::tests::Row;
 
 /// Steps.
-pub(crate) const IN_STEPS: &[Row] = &[
+pub(crate) static IN_STEPS: &[Row] = &[
     (
-        "20: `delivr`",
+        "`delivr`",
         "delivr w1 s1\n",
         r#"  delivr w1 s1
   ^
@@ -12,7 +12,7 @@ pub(crate) const IN_STEPS: &[Row] = &[
 "#,
     ),
     (
-        "39: `worker1`",
+        "`worker1`",
         "issue worker1\n",
         r#"  issue worker1
         ^
@@ -20,7 +20,7 @@ pub(crate) const IN_STEPS: &[Row] = &[
 "#,
     ),
     (
-        "40: w0",
+        "w0",
         "issue w0\n",
         r#"  issue w0
         ^
@@ -36,7 +36,7 @@ pub(crate) const IN_STEPS: &[Row] = &[
 "#,
     ),
     (
-        "45: serve without its place",
+        "serve without its place",
         "serve s1 w1\n",
         r#"  serve s1 w1
              ^
@@ -68,7 +68,7 @@ pub(crate) const IN_STEPS: &[Row] = &[
 "#,
     ),
     (
-        "11: a remark behind a step",
+        "a remark behind a step",
         "issue w1 # it asks\n",
         r#"  issue w1 # it asks
            ^
@@ -76,12 +76,12 @@ pub(crate) const IN_STEPS: &[Row] = &[
 "#,
     ),
     (
-        "6: a space behind a step",
+        "a space behind a step",
         "issue w1 \n",
         "  issue w1 \n          ^\n  a space at the end of the line: take it away\n",
     ),
     (
-        "53: a fault line among steps",
+        "a fault line among steps",
         "fail w1 after 3\n",
         r#"  fail w1 after 3
          ^
@@ -113,13 +113,13 @@ pub(crate) const IN_STEPS: &[Row] = &[
 "#,
     ),
     (
-        "10: no `end`",
+        "no `end`",
         "",
         r#"  `end` is missing: write it as the last line
 "#,
     ),
     (
-        "9: no line feed at the end",
+        "no line feed at the end",
         "end",
         r#"  end
      ^
@@ -137,9 +137,9 @@ pub(crate) const IN_STEPS: &[Row] = &[
 ];
 
 /// Fault lines.
-pub(crate) const IN_FAULTS: &[Row] = &[
+pub(crate) static IN_FAULTS: &[Row] = &[
     (
-        "53: `fail s1`",
+        "`fail s1`",
         "fail s1\n",
         r#"  fail s1
          ^
@@ -147,7 +147,7 @@ pub(crate) const IN_FAULTS: &[Row] = &[
 "#,
     ),
     (
-        "55: after 100001",
+        "after 100001",
         "fail w1 after 100001\n",
         r#"  fail w1 after 100001
                 ^
@@ -155,7 +155,7 @@ pub(crate) const IN_FAULTS: &[Row] = &[
 "#,
     ),
     (
-        "54: a node that is not there",
+        "a node that is not there",
         "check w2 after 1\n",
         r#"  check w2 after 1
         ^
@@ -189,8 +189,8 @@ pub(crate) const IN_FAULTS: &[Row] = &[
 ];
 
 /// Fault lines where there are more nodes.
-pub(crate) const IN_MORE_NODES: &[Row] = &[(
-    "54: a node that is not there",
+pub(crate) static IN_MORE_NODES: &[Row] = &[(
+    "a node that is not there",
     "fail s4 after 0\n",
     r#"  fail s4 after 0
        ^
