@@ -1,21 +1,18 @@
 -- How a node begins to vote in an instance: whom it asks, what is stored of it, and when it has voted at once.
 -- Cited by joining.rt, specs/Arrivals, specs/Deciding, specs/Saving, `joining::cohort`; other crates.
-use Rattle.std.specs.Prelude.{ℕ, Bool, not, List, ◌++◌, map, filter, Option, None, Some}
+use Rattle.std.specs.Prelude.{ℕ, Bool, not, List, ◌++◌, filter, Option, None, Some}
 use Rattle.kt_tuple.specs.declared.node.NodeId.{NodeId}
 use Rattle.kt_ckpt.specs.declared.ckpt.Ckpt.{Ckpt}
 use Rattle.kt_ckpt.specs.declared.header.CkptHeader.{CkptHeader}
 use Rattle.kt_vote.specs.declared.asker.Asker.{Asker}
 use Rattle.kt_vote.specs.Poll.{Poll, asking_poll}
 use Rattle.kt_state.specs.declared.message.Ask.{Ask}
-use Rattle.kt_state.specs.declared.message.Message.{Message}
-use Rattle.kt_state.specs.declared.message.Message.TheVariants as messages
 use Rattle.kt_state.specs.declared.live.Phase.TheVariants as phases
 use Rattle.kt_state.specs.declared.change.KeptChange.TheVariants as keeps
 use Rattle.kt_state.specs.declared.change.Change.TheVariants as changes
 use Rattle.kt_state.specs.declared.plan.Plan.{Plan}
 use Rattle.kt_state.specs.declared.plan.Write.{Write}
 use Rattle.kt_state.specs.declared.plan.Write.TheVariants as writes
-use Rattle.kt_link.specs.declared.label.Label.{Label}
 use Rattle.kt_state.specs.Labels.{up_to, label_at}
 use Rattle.kt_state.specs.Node.{Role, Live, node_number, neighbours}
 use Rattle.kt_node.specs.View.{View}
@@ -23,6 +20,7 @@ use Rattle.kt_state.specs.Stored.{sent_in, received_in}
 use Rattle.kt_state.specs.State.{checkpoint_of}
 use Rattle.kt_state.specs.Updating.{no_update}
 use Rattle.kt_state.specs.Voting.{casting, poll_after, votes}
+use Rattle.kt_state.specs.Asking.{check_asks, roll_asks}
 
 -- who asks
 abbrev pub asker_of : NodeId → Ask → Asker

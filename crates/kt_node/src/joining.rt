@@ -49,7 +49,7 @@ fn across(node: NodeId, number: u8) -> NodeId
 }
 
 /// All neighbours, in node order.
-#[tactic(auto, using(crate::proofs::Numbers::mapped_none, crate::proofs::Numbers::mapped_from_one))]
+#[tactic(auto, using(crate::proofs::Neighbours::none_yet, crate::proofs::Neighbours::one_more_yet))]
 pub(crate) fn neighbours(alloc: Global, role: Role<'_>) -> Result<Vec<NodeId>, AllocError>
     ensures value { IfOk result (λ v. v.items ≡ neighbours (role_view role.entry)) }
     ensures in_order { IfOk result (λ v. IsInOrder v.items) }

@@ -112,7 +112,7 @@ counts-so s c is p q n vote b phase k comes alive v so among own (due parent agr
         cast =
             let X : Node → Type 0 = λ x. AllByRecursion (CastSo x.votes) plan.send in
             subst X (sym (twice o (cast_node i ballot key agreed) first c.node o ∙ at-here o new c.node))
-            (k.scene new.votes parent.node own.1 (cast-among i ballot key agreed first), tt);
+            (k.cast new.votes parent.node own.1 (cast-among i ballot key agreed first), tt);
       });
     }
   where

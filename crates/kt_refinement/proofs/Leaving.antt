@@ -2,8 +2,7 @@
 -- permanent checkpoint has heard the sender's has sent, no label is of a later incarnation, and a tentative checkpoint's
 -- instance is on the board.
 -- Cited by `laws::what_a_world_leaves_can_be_resumed`; other crates.
-use Rattle.std.proofs.Common.{◌≡◌, ◌⊎◌, ℕ, ◌≤◌, Bool, true, false, IsTrue, Option, Some, None, inl, inr, refl, sym, ap, subst, ◌∙◌, arith}
-use Rattle.std.specs.Prelude.{IfSome, is_some}
+use Rattle.std.proofs.Common.{◌≡◌, ◌≤◌, IsTrue, Option, inl, inr, sym, ap, subst, ◌∙◌, arith}
 use Rattle.std.specs.Option.{option_map}
 use Rattle.std.proofs.lemmas.Bool.{cases_eq}
 use Rattle.kt_tuple.specs.declared.node.NodeId.{NodeId}
@@ -11,24 +10,20 @@ use Rattle.kt_tuple.specs.Node.{node_index}
 use Rattle.kt_link.specs.declared.label.Label.{Label as RealLabel}
 use Rattle.kt_ckpt.specs.declared.ckpt.Ckpt.{Ckpt}
 use Rattle.kt_ckpt.specs.Header.{header_of}
-use Rattle.kt_store.specs.declared.rows.NodeRow.{NodeRow}
-use Rattle.kt_store.specs.declared.rows.Tentative.{Tentative}
-use Rattle.kt_store.specs.Content.{Content, instance_row, row_of, verdict_of}
+use Rattle.kt_store.specs.Content.{row_of}
 use Rattle.kt_state.specs.Labels.{up_to}
 use Rattle.kt_state.specs.Node.{node_number}
 use Rattle.kt_state.specs.Stored.{sent_in, received_in}
-use Rattle.kt_model.specs.Cut.{permanent_of}
 use Rattle.kt_model.specs.Reached.{IsReached}
 use Rattle.kt_model.specs.Resumed.{AreFit, heard_from, sent_to}
 use Rattle.kt_model.specs.State.{State as World}
 use Rattle.kt_model.specs.auxiliary.Ready.{AreNeighbours}
-use Rattle.kt_model.proofs.Shared.{never-unfit, neighbours-turned, permanent-settled, row-settled, settled, settled-incarnation}
-use Rattle.kt_protocol.specs.Labels.{UpTo, Under}
+use Rattle.kt_model.proofs.Shared.{never-unfit, neighbours-turned, permanent-settled, settled, settled-incarnation}
+use Rattle.kt_protocol.specs.Labels.{UpTo}
 use Rattle.kt_protocol.specs.Logs.{top_sent, top_heard}
-use Rattle.kt_protocol.proofs.Shared.{Invariant, sent-tail, UpTo-Under}
-use Rattle.kt_refinement.proofs.Numbers.{label_of, peers}
+use Rattle.kt_protocol.proofs.Shared.{sent-tail, UpTo-Under}
+use Rattle.kt_refinement.proofs.Numbers.{label_of}
 use Rattle.kt_refinement.proofs.Known.{near-is}
-use Rattle.kt_refinement.proofs.Represents.{Represents}
 use Rattle.kt_refinement.proofs.Refined.{StandsFor, stands-invariant}
 use Rattle.kt_refinement.proofs.Resuming.{reached-stands}
 use Rattle.kt_refinement.proofs.Whole.{closed-reached}

@@ -1,7 +1,7 @@
 -- Which state of the machine a state of the world stands for: node by node, link by link, instance by instance.
 -- Cited by Acted, Acting, Agreeing, Answering, Beginning, BeginsCheck, Checking, Cohorts, CountsVote, Decides,
 --   Denies, Dropping, Falling, Forcing, Frames, GoesOn, Hearing, Hears, Issuing, JoinsCheck, JoinsRollback, Kept,
---   Known, LearnsDown and 19 more.
+--   Known, LearnsDown and 18 more.
 use Rattle.std.proofs.Common.{◌≡◌, ◌⊎◌, ℕ, ◌*◌, Bool, true, false, List, [], ◌∷◌, ◌++◌, length, take, Contains, Option, Some, None}
 use Rattle.std.specs.Prelude.{if◌then◌else◌}
 use Rattle.std.specs.Option.{option_map}

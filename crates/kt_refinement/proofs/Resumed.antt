@@ -31,12 +31,12 @@ use Rattle.kt_model.specs.Resumed.{AllFit, heard_from, sent_to, history_of, down
 use Rattle.kt_model.specs.auxiliary.Ready.{AreNeighbours}
 use Rattle.kt_model.proofs.Shared.{at-replicate, length-replicate, down-node, history-no_cut, history-well_formed}
 use Rattle.kt_model.proofs.Shared.{all-settled, IsAllSettled, row-settled, settled, settled_content, settled_row}
-use Rattle.kt_protocol.specs.Labels.{Label, UpTo, no_label}
+use Rattle.kt_protocol.specs.Labels.{Label, no_label}
 use Rattle.kt_protocol.specs.Logs.{IsIn, here, there, Act, Sends, Hears, Resumes, top_sent, top_heard}
 use Rattle.kt_protocol.specs.Machine.{Open, Node}
 use Rattle.kt_protocol.specs.Runs.{nothing_done}
 use Rattle.kt_protocol.proofs.Shared.{UpTo-eq, IsGrounded, HasGround}
-use Rattle.kt_refinement.proofs.Numbers.{named, named-index, index-named, peers, label_of}
+use Rattle.kt_refinement.proofs.Numbers.{named, named-index, index-named, label_of}
 use Rattle.kt_refinement.proofs.Reading.{Reads, nothing, found, AreAll}
 use Rattle.kt_refinement.proofs.Represents.{carried, LinkIs, Stands, NodeIs, InstanceIs, Represents}
 use Rattle.kt_refinement.proofs.Letters.{a_letter}

@@ -1,11 +1,10 @@
 -- The machine's first state where a world goes on from what a store holds.
 -- Cited by Resumed.
-use Rattle.std.proofs.Common.{◌≡◌, ℕ, zero, suc, ◌+◌, ◌-◌, ◌≤◌, Bool, true, false, if◌then◌else◌, List, [], ◌∷◌, Option, Some, None, IsTrue, refl, sym, subst}
+use Rattle.std.proofs.Common.{◌≡◌, ℕ, zero, suc, ◌+◌, ◌≤◌, Bool, true, false, if◌then◌else◌, List, [], ◌∷◌, Option, Some, None, IsTrue, refl, sym, subst}
 use Rattle.std.proofs.Common.{arith}
 use Rattle.std.specs.Option.{option_map}
 use Rattle.kt_tuple.specs.declared.node.NodeId.{NodeId}
 use Rattle.kt_tuple.specs.Node.{node_index}
-use Rattle.kt_history.specs.Log.{log}
 use Rattle.kt_link.specs.declared.label.Label.{Label as RealLabel}
 use Rattle.kt_ckpt.specs.declared.ckpt.Ckpt.{Ckpt}
 use Rattle.kt_ckpt.specs.Header.{header_of}
@@ -18,7 +17,6 @@ use Rattle.kt_state.specs.Node.{node_number}
 use Rattle.kt_state.specs.Stored.{sent_in}
 use Rattle.kt_scenario.specs.Scene.{SceneModel, is_node, are_neighbours}
 use Rattle.kt_model.specs.Cut.{permanent_of}
-use Rattle.kt_model.specs.State.{node}
 use Rattle.kt_model.specs.Resumed.{AllFit, heard_from, sent_to}
 use Rattle.kt_model.specs.auxiliary.Ready.{AreNeighbours}
 use Rattle.kt_model.proofs.Shared.{neighbours-turned, neighbour-node}

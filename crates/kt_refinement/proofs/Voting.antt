@@ -202,7 +202,7 @@ declines-so s c is p n b phase k parent alive votes has unvoted =
         votes = votes-at c o new (cast-more i votes.ballot key false (c.node o));
         cast =
             let X : Node → Type 0 = λ x. AllByRecursion (CastSo x.votes) plan.send in
-            subst X (sym (at-here o new c.node)) (k.scene new.votes parent.node (vote_for b.instance parent false).1 here, tt);
+            subst X (sym (at-here o new c.node)) (k.cast new.votes parent.node (vote_for b.instance parent false).1 here, tt);
       });
     }
 

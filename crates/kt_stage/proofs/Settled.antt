@@ -155,7 +155,7 @@ refused_counted {T = T} (Err y) e old mid new is rose same =
 pub fewer_left : (old new : State) (asked : State) (step : Step) → IsByPlan asked step new → new.made ≡ asked.made + 1 → beside asked ≡ beside old
     → MAX_STEPS - new.made < MAX_STEPS - old.made
 fewer_left old new asked step by_plan one same =
-    let room = plan-few asked by_plan.told step by_plan.plan by_plan.is in
+    let room = plan-few asked by_plan.store_reads step by_plan.plan by_plan.is in
     let was : asked.made ≡ old.made = ap (λ (t : State). t.made) same in
     omega (arith, room, one, was)
 

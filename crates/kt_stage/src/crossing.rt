@@ -3,8 +3,8 @@
 //! Cited by running.rt.
 
 ghost use denote.Param.Send.{IsSend, IsSync};
-ghost use Rattle.kt_core.specs.contracts.faults.Faults.{the_row as faults_row};
 ghost use Rattle.kt_core.specs.contracts.world.World.{the_row as world_row};
+ghost use Rattle.kt_scenario.specs.contracts.faults.Faults.{the_row as faults_row};
 ghost use Rattle.kt_stage.specs.contracts.journal.Journal.{the_row as journal_row};
 ghost use Rattle.kt_stage.specs.contracts.stage.RunState.{the_row as run_state_row};
 ghost use Rattle.kt_stage.specs.contracts.stage.Stage.{the_row as stage_row};
