@@ -1,8 +1,9 @@
 -- Lists that are put together from behind, block by block.
+-- Cited by `Acts::listed`.
 use Rattle.std.proofs.Common.{◌≡◌, ℕ, zero, suc, ◌-◌, ◌≤◌, List, [], ◌∷◌, ◌++◌, length, map, take, reverse, refl, sym, ap, subst, ◌∙◌, arith, Global}
 use Rattle.kt_ckpt.specs.declared.chain.Link.{Link}
 use Rattle.kt_ckpt.specs.declared.chain.Link.TheVariants.{End, Last}
-use Rattle.kt_ckpt.specs.inner.Chain.{IsChain, in_blocks}
+use Rattle.kt_ckpt.specs.auxiliary.Chain.{IsChain, in_blocks}
 use Rattle.std.specs.declared.sync.Arc.{Arc}
 use Rattle.kt_ckpt.specs.declared.chain.Block.{Block}
 use Rattle.std.proofs.lemmas.List.{append_assoc, reverse-append, reverse-reverse}

@@ -1,4 +1,6 @@
 -- A checkpoint is a field, and is all of its bytes.
+-- Cited by `Ckpt::decode`, `Ckpt::encode`, `CkptHeader::decode`, `decode::checkpoint_at`, `encode::encode_parts`;
+--   kt_sql_tables.
 use Rattle.std.proofs.Common.{append_assoc, ◌≡◌, ℕ, ◌^◌, ◌<◌, Bool, true, false, cond, eqb, List, [], ◌∷◌, ◌++◌, length, map, Result, Ok, Err, refl, sym, ap}
 use Rattle.std.proofs.Common.{◌≤◌, take, subst, ◌∙◌, arith}
 use Rattle.std.specs.Prelude.{◌≢◌, All, IfOk, OnOk}
@@ -18,14 +20,14 @@ use Rattle.kt_ckpt.specs.declared.state.State.{State}
 use Rattle.kt_ckpt.specs.declared.state.State.TheVariants as states
 use Rattle.kt_ckpt.specs.Fields.{WorkerFields, ShardFields}
 use Rattle.kt_ckpt.specs.Limits.{magic, version}
-use Rattle.kt_ckpt.specs.declared.acts.LineAct.{LineAct}
+use Rattle.kt_ckpt.specs.declared.acts.LogAct.{LogAct}
 use Rattle.kt_ckpt.specs.Acts.{IsActOf, IsSpelledAct, act_bytes, act_at}
 use Rattle.kt_ckpt.specs.Reading.{◌>>=◌, Gives, made, number_at, list_at}
 use Rattle.kt_ckpt.proofs.ActFields.{IsHeldAct, act_field, act_lasts}
 use Rattle.kt_ckpt.specs.State.{IsWorker, IsShard}
 use Rattle.kt_ckpt.specs.Node.{IsNode, node_bytes, node_at}
 use Rattle.kt_ckpt.specs.Checkpoint.{Checkpoint, Suits, IsLabel, IsState, IsCheckpoint, peers_bytes, state_bytes, spelling, magic_at}
-use Rattle.kt_ckpt.specs.Marks.{MarkFields, fields_of, marks_at, marks_of}
+use Rattle.kt_ckpt.specs.Header.{HeaderFields, fields_of, header_at, header_of}
 use Rattle.kt_ckpt.specs.Checkpoint.{version_at, peers_at, state_at, checkpoint_of, checkpoint_at, read}
 use Rattle.kt_ckpt.proofs.Field.{IsBytes, Takes, IsField, Lasts, the_ok, bind_ok, front_is_cut}
 use Rattle.kt_ckpt.proofs.Combined.{behind, behind_lasts, made_field, made_lasts}
@@ -69,11 +71,11 @@ with_state n l ps s bytes = made (checkpoint_of n l ps s) (list_at (act_at n) l 
 abbrev with_peers : NodeId → ℕ → List (Label × Label) → List ℕ → Result (Checkpoint × List ℕ) CkptError
 with_peers n l ps bytes = state_at n bytes >>= λ s. with_state n l ps s.0 s.1
 
-abbrev with_line : NodeId → ℕ → List ℕ → Result (Checkpoint × List ℕ) CkptError
-with_line n l bytes = peers_at bytes >>= λ ps. with_peers n l ps.0 ps.1
+abbrev with_log : NodeId → ℕ → List ℕ → Result (Checkpoint × List ℕ) CkptError
+with_log n l bytes = peers_at bytes >>= λ ps. with_peers n l ps.0 ps.1
 
 abbrev with_node : NodeId → List ℕ → Result (Checkpoint × List ℕ) CkptError
-with_node n bytes = number_at w64 bytes >>= λ l. with_line n l.0 l.1
+with_node n bytes = number_at w64 bytes >>= λ l. with_log n l.0 l.1
 
 abbrev with_version : ℕ → List ℕ → Result (Checkpoint × List ℕ) CkptError
 with_version v bytes = node_at bytes >>= λ n. with_node n.0 n.1
@@ -87,11 +89,11 @@ from_state c = state_bytes c.state ++ flat_map act_bytes c.acts
 abbrev from_peers : Checkpoint → List ℕ
 from_peers c = peers_bytes (zip c.sent c.received) ++ from_state c
 
-abbrev from_line : Checkpoint → List ℕ
-from_line c = to_be_bytes w64 c.line_len ++ from_peers c
+abbrev from_log : Checkpoint → List ℕ
+from_log c = to_be_bytes w64 c.line_len ++ from_peers c
 
 abbrev from_node : Checkpoint → List ℕ
-from_node c = node_bytes c.node ++ from_line c
+from_node c = node_bytes c.node ++ from_log c
 
 have_peers : (c : Checkpoint) → IsCheckpoint c → HavePeers (zip c.sent c.received)
 have_peers c h =
@@ -109,7 +111,7 @@ checkpoint_is n l ps s c a b d g e =
     ∙ ap (λ (s : List Label). of c.node c.line_len s (map (λ p. p.1) (zip c.sent c.received))) (firsts c.sent c.received e)
     ∙ ap (λ (r : List Label). of c.node c.line_len c.sent r) (seconds c.sent c.received e)
 
-made_checkpoint : (n : NodeId) (l : ℕ) (ps : List (Label × Label)) (s : State) (acts : List LineAct) → IsNode n → l < 2 ^ 64 → HavePeers ps
+made_checkpoint : (n : NodeId) (l : ℕ) (ps : List (Label × Label)) (s : State) (acts : List LogAct) → IsNode n → l < 2 ^ 64 → HavePeers ps
     → Suits n s × IsState s → (length acts ≡ l) × All (IsHeldAct n) acts → IsCheckpoint (checkpoint_of n l ps s acts)
 made_checkpoint n l ps s acts hn hl hp hs ha = record {
   node = hn;
@@ -128,7 +130,7 @@ made_checkpoint n l ps s acts hn hl hp hs ha = record {
   spelled = All-weaker (IsHeldAct n) IsSpelledAct (λ a h. h.1) acts ha.1;
 }
 
-all-both : (n : NodeId) (acts : List LineAct) → All (IsActOf n) acts → All IsSpelledAct acts → All (IsHeldAct n) acts
+all-both : (n : NodeId) (acts : List LogAct) → All (IsActOf n) acts → All IsSpelledAct acts → All (IsHeldAct n) acts
 all-both n [] a b = All-nil (IsHeldAct n)
 all-both n (x ∷ xs) a b =
     All-cons (IsHeldAct n) x xs (All-head (IsActOf n) x xs a, All-head IsSpelledAct x xs b)
@@ -139,9 +141,9 @@ unfolding checkpoint_at
 checkpoint_field =
     let f = behind magic_field (λ (c : Checkpoint). magic) (λ c. version ∷ from_node c) IsCheckpoint with_magic (λ c h. refl)
     (λ m hm. behind version_field (λ (c : Checkpoint). version) from_node (λ c. IsCheckpoint c × (m ≡ magic)) with_version (λ c h. refl)
-    (λ v hv. behind node_field (λ (c : Checkpoint). c.node) from_line (λ c. (IsCheckpoint c × (m ≡ magic)) × (v ≡ version)) with_node (λ c h. h.0.0.node)
+    (λ v hv. behind node_field (λ (c : Checkpoint). c.node) from_log (λ c. (IsCheckpoint c × (m ≡ magic)) × (v ≡ version)) with_node (λ c h. h.0.0.node)
     (λ n hn. behind (number_field w64 (2 ^ 64) wide64) (λ (c : Checkpoint). c.line_len) from_peers
-    (λ c. ((IsCheckpoint c × (m ≡ magic)) × (v ≡ version)) × (n ≡ c.node)) (with_line n) (λ c h. h.0.0.0.line_len)
+    (λ c. ((IsCheckpoint c × (m ≡ magic)) × (v ≡ version)) × (n ≡ c.node)) (with_log n) (λ c h. h.0.0.0.line_len)
     (λ l hl. behind peers_field (λ (c : Checkpoint). zip c.sent c.received) from_state
     (λ c. (((IsCheckpoint c × (m ≡ magic)) × (v ≡ version)) × (n ≡ c.node)) × (l ≡ c.line_len)) (with_peers n l) (λ c h. have_peers c h.0.0.0.0)
     (λ ps hp. behind (state_field n) (λ (c : Checkpoint). c.state) (λ c. flat_map act_bytes c.acts)
@@ -169,28 +171,28 @@ checkpoint_lasts =
     let l = behind_lasts with_magic magic_lasts
     (λ m. behind_lasts with_version version_lasts
     (λ v. behind_lasts with_node node_lasts
-    (λ n. behind_lasts (with_line n) (number_lasts w64)
+    (λ n. behind_lasts (with_log n) (number_lasts w64)
     (λ l. behind_lasts (with_peers n l) peers_lasts
     (λ ps. behind_lasts (with_state n l ps) (state_lasts n)
     (λ s. made_lasts (checkpoint_of n l ps s) (list_lasts (act_lasts n) l))))))) in
     record { goes_on = l.goes_on }
 
--- ---- its marks
+-- ---- its header
 
-abbrev marks_peers : NodeId → ℕ → List (Label × Label) → Result MarkFields CkptError
-marks_peers n l ps = Ok (fields_of n l (map (λ p. p.0) ps) (map (λ p. p.1) ps))
+abbrev header_peers : NodeId → ℕ → List (Label × Label) → Result HeaderFields CkptError
+header_peers n l ps = Ok (fields_of n l (map (λ p. p.0) ps) (map (λ p. p.1) ps))
 
-abbrev marks_line : NodeId → ℕ → List ℕ → Result MarkFields CkptError
-marks_line n l bytes = peers_at bytes >>= λ ps. marks_peers n l ps.0
+abbrev header_log : NodeId → ℕ → List ℕ → Result HeaderFields CkptError
+header_log n l bytes = peers_at bytes >>= λ ps. header_peers n l ps.0
 
-abbrev marks_node : NodeId → List ℕ → Result MarkFields CkptError
-marks_node n bytes = number_at w64 bytes >>= λ l. marks_line n l.0 l.1
+abbrev header_node : NodeId → List ℕ → Result HeaderFields CkptError
+header_node n bytes = number_at w64 bytes >>= λ l. header_log n l.0 l.1
 
-abbrev marks_version : List ℕ → Result MarkFields CkptError
-marks_version bytes = node_at bytes >>= λ n. marks_node n.0 n.1
+abbrev header_version : List ℕ → Result HeaderFields CkptError
+header_version bytes = node_at bytes >>= λ n. header_node n.0 n.1
 
-abbrev marks_magic : List ℕ → Result MarkFields CkptError
-marks_magic bytes = version_at bytes >>= λ v. marks_version v.1
+abbrev header_magic : List ℕ → Result HeaderFields CkptError
+header_magic bytes = version_at bytes >>= λ v. header_version v.1
 
 -- ---- all of the bytes
 
@@ -271,7 +273,7 @@ is_read_back (Err x) c e h = tt
 -- ---- what the code does step by step
 
 pub read_checkpoint : (bytes r1 r2 : List ℕ) (n : NodeId) (r3 : List ℕ) (l : ℕ) (r4 : List ℕ) (ps : List (Label × Label)) (r5 : List ℕ) (s : State)
-    (r6 : List ℕ) (acts : List LineAct) (r7 : List ℕ)
+    (r6 : List ℕ) (acts : List LogAct) (r7 : List ℕ)
     → magic_at bytes ≡ Ok (magic, r1) → version_at r1 ≡ Ok (version, r2) → node_at r2 ≡ Ok (n, r3) → number_at w64 r3 ≡ Ok (l, r4)
     → peers_at r4 ≡ Ok (ps, r5) → state_at n r5 ≡ Ok (s, r6)
     → list_at (act_at n) l r6 ≡ Ok (acts, r7) → checkpoint_at bytes ≡ Ok (checkpoint_of n l ps s acts, r7)
@@ -280,29 +282,29 @@ read_checkpoint bytes r1 r2 n r3 l r4 ps r5 s r6 acts r7 a b c d e f g =
     ap (λ (r : Result (List ℕ × List ℕ) CkptError). r >>= λ m. with_magic m.0 m.1) a
     ∙ ap (λ (r : Result (ℕ × List ℕ) CkptError). r >>= λ v. with_version v.0 v.1) b
     ∙ ap (λ (r : Result (NodeId × List ℕ) CkptError). r >>= λ n. with_node n.0 n.1) c
-    ∙ ap (λ (r : Result (ℕ × List ℕ) CkptError). r >>= λ l. with_line n l.0 l.1) d
+    ∙ ap (λ (r : Result (ℕ × List ℕ) CkptError). r >>= λ l. with_log n l.0 l.1) d
     ∙ ap (λ (r : Result (List (Label × Label) × List ℕ) CkptError). r >>= λ ps. with_peers n l ps.0 ps.1) e
     ∙ ap (λ (r : Result (State × List ℕ) CkptError). r >>= λ s. with_state n l ps s.0 s.1) f
     ∙ ap (made (checkpoint_of n l ps s)) g
 
--- the marks of a checkpoint are read of its spelling
-pub marks_again : (c : Checkpoint) → IsCheckpoint c → marks_at (spelling c) ≡ Ok (marks_of c)
-unfolding marks_at read checkpoint_at
-marks_again c h =
+-- the header of a checkpoint are read of its spelling
+pub header_again : (c : Checkpoint) → IsCheckpoint c → header_at (spelling c) ≡ Ok (header_of c)
+unfolding header_at read checkpoint_at
+header_again c h =
     let all = bind_ok (checkpoint_at (spelling c)) if_ended c (read_again c h) in
     let m = bind_ok (magic_at (spelling c)) (λ m. with_magic m.0 m.1) all.0 all.1 in
     let v = bind_ok (version_at m.0.1) (λ v. with_version v.0 v.1) all.0 m.2 in
     let n = bind_ok (node_at v.0.1) (λ n. with_node n.0 n.1) all.0 v.2 in
-    let l = bind_ok (number_at w64 n.0.1) (λ l. with_line n.0.0 l.0 l.1) all.0 n.2 in
+    let l = bind_ok (number_at w64 n.0.1) (λ l. with_log n.0.0 l.0 l.1) all.0 n.2 in
     let ps = bind_ok (peers_at l.0.1) (λ ps. with_peers n.0.0 l.0.0 ps.0 ps.1) all.0 l.2 in
     let s = bind_ok (state_at n.0.0 ps.0.1) (λ s. with_state n.0.0 l.0.0 ps.0.0 s.0 s.1) all.0 ps.2 in
     let acts = bind_ok (list_at (act_at n.0.0) l.0.0 s.0.1) (λ a. the_ok (checkpoint_of n.0.0 l.0.0 ps.0.0 s.0.0 a.0, a.1)) all.0 s.2 in
-    ap (λ (r : Result (List ℕ × List ℕ) CkptError). r >>= λ m. marks_magic m.1) m.1
-    ∙ ap (λ (r : Result (ℕ × List ℕ) CkptError). r >>= λ v. marks_version v.1) v.1
-    ∙ ap (λ (r : Result (NodeId × List ℕ) CkptError). r >>= λ n. marks_node n.0 n.1) n.1
-    ∙ ap (λ (r : Result (ℕ × List ℕ) CkptError). r >>= λ l. marks_line n.0.0 l.0 l.1) l.1
-    ∙ ap (λ (r : Result (List (Label × Label) × List ℕ) CkptError). r >>= λ ps. marks_peers n.0.0 l.0.0 ps.0) ps.1
-    ∙ ap (λ (k : Checkpoint). the_ok (marks_of k)) (same_checkpoint acts.2 (ended all.0 c all.2))
+    ap (λ (r : Result (List ℕ × List ℕ) CkptError). r >>= λ m. header_magic m.1) m.1
+    ∙ ap (λ (r : Result (ℕ × List ℕ) CkptError). r >>= λ v. header_version v.1) v.1
+    ∙ ap (λ (r : Result (NodeId × List ℕ) CkptError). r >>= λ n. header_node n.0 n.1) n.1
+    ∙ ap (λ (r : Result (ℕ × List ℕ) CkptError). r >>= λ l. header_log n.0.0 l.0 l.1) l.1
+    ∙ ap (λ (r : Result (List (Label × Label) × List ℕ) CkptError). r >>= λ ps. header_peers n.0.0 l.0.0 ps.0) ps.1
+    ∙ ap (λ (k : Checkpoint). the_ok (header_of k)) (same_checkpoint acts.2 (ended all.0 c all.2))
 
 pub spelled_out : (o0 o1 o2 o3 o4 o5 o6 : List ℕ) (c : Checkpoint) → o0 ≡ [] → o1 ≡ o0 ++ (magic ++ version ∷ []) → o2 ≡ o1 ++ node_bytes c.node
     → o3 ≡ o2 ++ to_be_bytes w64 c.line_len → o4 ≡ o3 ++ peers_bytes (zip c.sent c.received) → o5 ≡ o4 ++ state_bytes c.state

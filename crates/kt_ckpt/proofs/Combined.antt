@@ -1,4 +1,6 @@
 -- Fields made of fields: one behind the other, one or the other, one under another name.
+-- Cited by ActCauses, ActFields, ActWhats, Checkpoints, Front, Nodes, OldCheckpoints, OldFields, OldOps, OldParts,
+--   OldRising, OldStates, OldWorkers, Ops, Peers, Primitive, States, Tuples, Values.
 use Rattle.std.proofs.Common.{◌≡◌, ℕ, Bool, true, false, cond, List, [], ◌++◌, Result, Ok, Err, refl, sym, ap, subst, ◌∙◌, append_assoc}
 use Rattle.kt_ckpt.specs.declared.error.CkptError.{CkptError}
 use Rattle.kt_ckpt.specs.declared.error.CkptError.TheVariants.{Magic, Version, Cut, Field, Extra, OutOfMemory}

@@ -1,4 +1,6 @@
 -- What it is to read a field: just its spellings are read, whatever follows, and what is known of it stays known as more bytes come.
+-- Cited by ActCauses, ActFields, ActWhats, Checkpoints, Combined, Front, Nodes, OldCheckpoints, OldFields, OldOps,
+--   OldParts, OldRising, OldStates, OldWorkers, Ops, Peers, Primitive, States, Tuples, Values.
 use Rattle.std.proofs.Common.{◌≡◌, ℕ, suc, ◌+◌, ◌<◌, List, [], ◌∷◌, ◌++◌, length, get_or, take, drop, Result, Ok, Err, refl, sym, ap, ◌∙◌, append_assoc}
 use Rattle.std.proofs.Common.{arith, inl, inr}
 use Rattle.std.proofs.lemmas.Bool.{cases_lt}

@@ -1,4 +1,5 @@
--- What is gathered of a line stays of it, and is what a checkpoint holds.
+-- What is gathered of a log stays of it, and is what a checkpoint holds.
+-- Cited by `Past::acts`, `Past::add`, `Past::are_fit`, `past::are_fit_behind`, `past::give_up`, `past::keep_first`.
 use Rattle.std.proofs.Common.{◌≡◌, ℕ, zero, suc, ◌≤◌, Bool, true, false, ◌&&◌, if◌then◌else◌, List, [], ◌∷◌, ◌++◌, take, drop, length, map, get_or, set, ◌<◌}
 use Rattle.std.proofs.Common.{Option, Some, None, inl, inr, refl, sym, ap, ◌∙◌, subst, arith, length-append}
 use Rattle.std.specs.Prelude.{◌⊎◌, All}
@@ -14,35 +15,35 @@ use Rattle.kt_tuple.proofs.Shared.{node_index-injective}
 use Rattle.kt_history.specs.declared.note.Act.{Act}
 use Rattle.kt_history.specs.declared.note.Note.{Note}
 use Rattle.kt_history.specs.declared.note.Note.TheVariants as notes
-use Rattle.kt_history.specs.Line.{line, note_at, same_node}
-use Rattle.kt_history.specs.Closed.{act_of, acts_at, acts_in_line}
+use Rattle.kt_history.specs.Log.{log, note_at, same_node}
+use Rattle.kt_history.specs.Closed.{act_of, acts_at, acts_in_log}
 use Rattle.kt_history.specs.WellFormed.{CausesComeFirst}
-use Rattle.kt_history.proofs.Shared.{acts_in_line-own_act, acts_in_line-own_cut, acts_in_line-other_act, acts_in_line-other_cut, same_node-true}
-use Rattle.kt_ckpt.specs.declared.acts.LineAct.{LineAct}
+use Rattle.kt_history.proofs.Shared.{acts_in_log-own_act, acts_in_log-own_cut, acts_in_log-other_act, acts_in_log-other_cut, same_node-true}
+use Rattle.kt_ckpt.specs.declared.acts.LogAct.{LogAct}
 use Rattle.kt_ckpt.specs.Acts.{IsActOf, is_act_of}
-use Rattle.kt_ckpt.specs.LineActs.{fitting, line_act, line_acts}
-use Rattle.kt_ckpt.specs.inner.Gathered.{IsGathered, IsLeft, IsPut, Leaves, fits_at, row}
-use Rattle.kt_ckpt.proofs.NotedLines.{acts-long, front-noted, line-long, take-whole}
+use Rattle.kt_ckpt.specs.LogActs.{fitting, log_act, log_acts}
+use Rattle.kt_ckpt.specs.auxiliary.Gathered.{IsGathered, IsLeft, IsPut, Leaves, fits_at, row}
+use Rattle.kt_ckpt.proofs.NotedLogs.{acts-long, front-noted, log-long, take-whole}
 
--- no more is gathered than the line has
-pub gathered-short : (h : List Note) (p : NodeId) (acts : List LineAct) → IsGathered h p acts → length acts ≤ length (line h p)
+-- no more is gathered than the log has
+pub gathered-short : (h : List Note) (p : NodeId) (acts : List LogAct) → IsGathered h p acts → length acts ≤ length (log h p)
 gathered-short h p acts g =
-    let e = ap (λ (l : List LineAct). length l) g.first in
-    let m = length-take (length acts) (line_acts h p) in
-    omega (arith, e, m, acts-long h p, line-long h p)
+    let e = ap (λ (l : List LogAct). length l) g.first in
+    let m = length-take (length acts) (log_acts h p) in
+    omega (arith, e, m, acts-long h p, log-long h p)
 
--- what is gathered and what stands behind it are the line
-pub gathered-whole : (h : List Note) (p : NodeId) (acts : List LineAct) → IsGathered h p acts
-    → acts ++ drop (length acts) (line_acts h p) ≡ line_acts h p
+-- what is gathered and what stands behind it are the log
+pub gathered-whole : (h : List Note) (p : NodeId) (acts : List LogAct) → IsGathered h p acts
+    → acts ++ drop (length acts) (log_acts h p) ≡ log_acts h p
 gathered-whole h p acts g =
-    ap (λ (l : List LineAct). l ++ drop (length acts) (line_acts h p)) g.first ∙ take-append-drop (length acts) (line_acts h p)
+    ap (λ (l : List LogAct). l ++ drop (length acts) (log_acts h p)) g.first ∙ take-append-drop (length acts) (log_acts h p)
 
 -- nothing is gathered at first
 pub none-gathered : (h : List Note) (p : NodeId) → IsGathered h p []
 none-gathered h p = record { first = refl; fit = λ i d lt. absurd (omega (arith, lt)) }
 
--- the whole line, where each act may stand in it
-pub all-gathered : (h : List Note) (p : NodeId) (acts : List LineAct) → acts ≡ line_acts h p → All (IsActOf p) acts → IsGathered h p acts
+-- the whole log, where each act may stand in it
+pub all-gathered : (h : List Note) (p : NodeId) (acts : List LogAct) → acts ≡ log_acts h p → All (IsActOf p) acts → IsGathered h p acts
 all-gathered h p acts are fit = record { first = sym (take-whole acts) ∙ ap (take (length acts)) are; fit = fit }
 
 -- ---- as the history grows
@@ -53,36 +54,36 @@ take-twice (suc m) zero xs = refl
 take-twice (suc m) (suc n) [] = refl
 take-twice (suc m) (suc n) (x ∷ xs) = ap (λ l. x ∷ l) (take-twice m n xs)
 
--- what the note leaves of a row is still of the line, and no longer than that
-left-short : (h : List Note) (note : Note) (p : NodeId) (new : List LineAct) → Leaves note p (length new)
-    → length new ≤ length (acts_in_line h p) → length new ≤ length (acts_in_line (h ++ note ∷ []) p)
+-- what the note leaves of a row is still of the log, and no longer than that
+left-short : (h : List Note) (note : Note) (p : NodeId) (new : List LogAct) → Leaves note p (length new)
+    → length new ≤ length (acts_in_log h p) → length new ≤ length (acts_in_log (h ++ note ∷ []) p)
 left-short h (notes.Act a) p new few low = elim (cases_Bool (same_node a.node p)) [
   | inl own ↦
-      let Own : NodeId → Type 0 = λ r. acts_in_line (h ++ notes.Act a ∷ []) r ≡ acts_in_line h r ++ a ∷ [] in
-      let grown : Own p = subst Own (same_node-true a.node p own) (acts_in_line-own_act h a) in
+      let Own : NodeId → Type 0 = λ r. acts_in_log (h ++ notes.Act a ∷ []) r ≡ acts_in_log h r ++ a ∷ [] in
+      let grown : Own p = subst Own (same_node-true a.node p own) (acts_in_log-own_act h a) in
       let e = ap (λ (l : List Act). length l) grown in
-      omega (arith, e, length-append (acts_in_line h p) (a ∷ []), low)
-  | inr other ↦ let e = ap (λ (l : List Act). length l) (acts_in_line-other_act h a p other) in omega (arith, e, low)
+      omega (arith, e, length-append (acts_in_log h p) (a ∷ []), low)
+  | inr other ↦ let e = ap (λ (l : List Act). length l) (acts_in_log-other_act h a p other) in omega (arith, e, low)
 ]
 left-short h (notes.Cut q keep) p new few low = elim (cases_Bool (same_node q p)) [
   | inl own ↦
       let same : q ≡ p = same_node-true q p own in
-      let Own : NodeId → Type 0 = λ r. acts_in_line (h ++ notes.Cut q keep ∷ []) r ≡ take keep (acts_in_line h r) in
-      let cut : Own p = subst Own same (acts_in_line-own_cut h q keep) in
+      let Own : NodeId → Type 0 = λ r. acts_in_log (h ++ notes.Cut q keep ∷ []) r ≡ take keep (acts_in_log h r) in
+      let cut : Own p = subst Own same (acts_in_log-own_cut h q keep) in
       let e = ap (λ (l : List Act). length l) cut in
-      omega (arith, e, length-take keep (acts_in_line h p), few (sym same), low)
-  | inr other ↦ let e = ap (λ (l : List Act). length l) (acts_in_line-other_cut h q keep p other) in omega (arith, e, low)
+      omega (arith, e, length-take keep (acts_in_log h p), few (sym same), low)
+  | inr other ↦ let e = ap (λ (l : List Act). length l) (acts_in_log-other_cut h q keep p other) in omega (arith, e, low)
 ]
 
-pub gathered-noted : (h : List Note) (note : Note) (p : NodeId) (old new : List LineAct) → CausesComeFirst h → IsGathered h p old → IsLeft note old p new
+pub gathered-noted : (h : List Note) (note : Note) (p : NodeId) (old new : List LogAct) → CausesComeFirst h → IsGathered h p old → IsLeft note old p new
     → IsGathered (h ++ note ∷ []) p new
 gathered-noted h note p old new causes g left =
-    let e : new ≡ take left.left (take (length old) (line_acts h p)) = left.first ∙ ap (take left.left) g.first in
-    let front : new ≡ take (length new) (line_acts h p) =
-    e ∙ take-twice left.left (length old) (line_acts h p) ∙ ap (λ (l : List LineAct). take (length l) (line_acts h p)) (sym e) in
-    let long = ap (λ (l : List LineAct). length l) front in
-    let low : length new ≤ length (acts_in_line h p) =
-    omega (arith, long, length-take (length new) (line_acts h p), acts-long h p) in
+    let e : new ≡ take left.left (take (length old) (log_acts h p)) = left.first ∙ ap (take left.left) g.first in
+    let front : new ≡ take (length new) (log_acts h p) =
+    e ∙ take-twice left.left (length old) (log_acts h p) ∙ ap (λ (l : List LogAct). take (length l) (log_acts h p)) (sym e) in
+    let long = ap (λ (l : List LogAct). length l) front in
+    let low : length new ≤ length (acts_in_log h p) =
+    omega (arith, long, length-take (length new) (log_acts h p), acts-long h p) in
     record {
       first = front ∙ sym (front-noted h note causes p (length new) low (left-short h note p new left.few low));
       fit = All-same (IsActOf p) new (take left.left old) left.first (All-take (IsActOf p) left.left old g.fit);
@@ -90,28 +91,28 @@ gathered-noted h note p old new causes g left =
 
 -- ---- what a checkpoint holds
 
--- the line's acts are those that were gathered and those behind them
-pub whole-line : (h : List Note) (p : NodeId) (older newer : List LineAct) → IsGathered h p older
-    → newer ≡ drop (length older) (line_acts h p) → older ++ newer ≡ line_acts h p
-whole-line h p older newer g is = ap (λ (l : List LineAct). older ++ l) is ∙ gathered-whole h p older g
+-- the log's acts are those that were gathered and those behind them
+pub whole-log : (h : List Note) (p : NodeId) (older newer : List LogAct) → IsGathered h p older
+    → newer ≡ drop (length older) (log_acts h p) → older ++ newer ≡ log_acts h p
+whole-log h p older newer g is = ap (λ (l : List LogAct). older ++ l) is ∙ gathered-whole h p older g
 
 fits-first : (h : List Note) (p : NodeId) (n : ℕ) (numbers : List ℕ) (found : Option Act) → act_of (note_at h n) ≡ found
-    → list_all (fits_at h p) numbers ≡ list_all (is_act_of p) (map (line_act h) (acts_at h numbers))
-    → list_all (fits_at h p) (n ∷ numbers) ≡ list_all (is_act_of p) (map (line_act h) (acts_at h (n ∷ numbers)))
-fits-first h p n numbers (Some a) is rest = rw is (ap (λ (b : Bool). is_act_of p (line_act h a) && b) rest)
+    → list_all (fits_at h p) numbers ≡ list_all (is_act_of p) (map (log_act h) (acts_at h numbers))
+    → list_all (fits_at h p) (n ∷ numbers) ≡ list_all (is_act_of p) (map (log_act h) (acts_at h (n ∷ numbers)))
+fits-first h p n numbers (Some a) is rest = rw is (ap (λ (b : Bool). is_act_of p (log_act h a) && b) rest)
 fits-first h p n numbers None is rest = rw is rest
 
--- the acts of these numbers may stand in the line where each number's may
+-- the acts of these numbers may stand in the log where each number's may
 pub fits-each : (h : List Note) (p : NodeId) (numbers : List ℕ)
-    → list_all (fits_at h p) numbers ≡ list_all (is_act_of p) (map (line_act h) (acts_at h numbers))
+    → list_all (fits_at h p) numbers ≡ list_all (is_act_of p) (map (log_act h) (acts_at h numbers))
 fits-each h p [] = refl
 fits-each h p (n ∷ numbers) = fits-first h p n numbers (act_of (note_at h n)) refl (fits-each h p numbers)
 
--- those of the line may where those that were not gathered may
-pub gathered-fits : (h : List Note) (p : NodeId) (older : List LineAct) → IsGathered h p older
-    → list_all (is_act_of p) (drop (length older) (line_acts h p)) ≡ list_all (is_act_of p) (line_acts h p)
+-- those of the log may where those that were not gathered may
+pub gathered-fits : (h : List Note) (p : NodeId) (older : List LogAct) → IsGathered h p older
+    → list_all (is_act_of p) (drop (length older) (log_acts h p)) ≡ list_all (is_act_of p) (log_acts h p)
 gathered-fits h p older g =
-    let newer = drop (length older) (line_acts h p) in
+    let newer = drop (length older) (log_acts h p) in
     let test : list_all (is_act_of p) (older ++ newer) ≡ list_all (is_act_of p) newer =
     list_all-append (is_act_of p) older newer
     ∙ ap (λ (b : Bool). b && list_all (is_act_of p) newer) (list_all-from_AllPass (is_act_of p) older g.fit) in
@@ -127,23 +128,23 @@ some-if : {A : Type 0} → (b : Bool) (x y : A) → Some y ≡ (if b then Some x
 some-if true x y e = let same : y ≡ x = cc in (refl, same)
 some-if false x y e = absurd cc
 
--- acts are given just where each may stand in the line
-pub given-none : (p : NodeId) (acts : List LineAct) → list_all (is_act_of p) acts ≡ false → None ≡ fitting p acts
+-- acts are given just where each may stand in the log
+pub given-none : (p : NodeId) (acts : List LogAct) → list_all (is_act_of p) acts ≡ false → None ≡ fitting p acts
 given-none p acts e = rw e refl
 
-pub given-some : (p : NodeId) (acts given : List LineAct) → list_all (is_act_of p) acts ≡ true → given ≡ acts → Some given ≡ fitting p acts
-given-some p acts given e same = rw e (ap (λ (l : List LineAct). Some l) same)
+pub given-some : (p : NodeId) (acts given : List LogAct) → list_all (is_act_of p) acts ≡ true → given ≡ acts → Some given ≡ fitting p acts
+given-some p acts given e same = rw e (ap (λ (l : List LogAct). Some l) same)
 
-pub fitting-none : (p : NodeId) (acts : List LineAct) → None ≡ fitting p acts → list_all (is_act_of p) acts ≡ false
+pub fitting-none : (p : NodeId) (acts : List LogAct) → None ≡ fitting p acts → list_all (is_act_of p) acts ≡ false
 fitting-none p acts e = none-if (list_all (is_act_of p) acts) acts e
 
-pub fitting-some : (p : NodeId) (acts given : List LineAct) → Some given ≡ fitting p acts → (list_all (is_act_of p) acts ≡ true) × (given ≡ acts)
+pub fitting-some : (p : NodeId) (acts given : List LogAct) → Some given ≡ fitting p acts → (list_all (is_act_of p) acts ≡ true) × (given ≡ acts)
 fitting-some p acts given e = some-if (list_all (is_act_of p) acts) acts given e
 
 -- ---- rows
 
 -- the row of the node gets these acts, and no other changes
-pub put-row : (rows : List (List LineAct)) (node : NodeId) (i : ℕ) (acts : List LineAct) → i ≡ node_index node → i < length rows → (p : NodeId)
+pub put-row : (rows : List (List LogAct)) (node : NodeId) (i : ℕ) (acts : List LogAct) → i ≡ node_index node → i < length rows → (p : NodeId)
     → IsPut node acts (row rows p) p (row (set rows i acts) p)
 put-row rows node i acts at lt p = elim (cases_eq (node_index p) i) [
   | inl here ↦
@@ -152,7 +153,7 @@ put-row rows node i acts at lt p = elim (cases_eq (node_index p) i) [
 ]
 
 -- the first acts of the row of the node stay, or none, and no other row changes
-pub left-row : (rows : List (List LineAct)) (node : NodeId) (keep i : ℕ) (old new : List LineAct) → i ≡ node_index node → i < length rows
+pub left-row : (rows : List (List LogAct)) (node : NodeId) (keep i : ℕ) (old new : List LogAct) → i ≡ node_index node → i < length rows
     → old ≡ get_or rows i old → (new ≡ take keep old) ⊎ (new ≡ []) → (p : NodeId) → IsLeft (notes.Cut node keep) (row rows p) p (row (set rows i new) p)
 left-row rows node keep i old new at lt is made p = elim (cases_eq (node_index p) i) [
   | inl here ↦
@@ -173,16 +174,16 @@ left-row rows node keep i old new at lt is made p = elim (cases_eq (node_index p
     by (inl front) now was = record {
       left = keep;
       first = now ∙ front ∙ ap (take keep) (sym was);
-      few = λ e. let long = ap (λ (l : List LineAct). length l) (now ∙ front) in omega (arith, long, length-take keep old);
+      few = λ e. let long = ap (λ (l : List LogAct). length l) (now ∙ front) in omega (arith, long, length-take keep old);
     }
     by (inr none) now was = record {
       left = 0;
       first = now ∙ none;
-      few = λ e. let long = ap (λ (l : List LineAct). length l) (now ∙ none) in omega (arith, long);
+      few = λ e. let long = ap (λ (l : List LogAct). length l) (now ∙ none) in omega (arith, long);
     }
 
 -- where the node has no row, none is left out
-pub left-none : (rows : List (List LineAct)) (node : NodeId) (keep : ℕ) → (node_index node < length rows → ⊥) → (p : NodeId)
+pub left-none : (rows : List (List LogAct)) (node : NodeId) (keep : ℕ) → (node_index node < length rows → ⊥) → (p : NodeId)
     → IsLeft (notes.Cut node keep) (row rows p) p (row rows p)
 left-none rows node keep out p = record {
   left = length (row rows p);
@@ -193,10 +194,10 @@ left-none rows node keep out p = record {
         | inr le ↦ le
       ] in
       let none : row rows p ≡ [] = ap (λ (q : NodeId). row rows q) e ∙ get_or_past rows (node_index node) [] past in
-      let long = ap (λ (l : List LineAct). length l) none in
+      let long = ap (λ (l : List LogAct). length l) none in
       omega (arith, long);
 }
 
 -- an act leaves all
-pub left-all : (rows : List (List LineAct)) (a : Act) (p : NodeId) → IsLeft (notes.Act a) (row rows p) p (row rows p)
+pub left-all : (rows : List (List LogAct)) (a : Act) (p : NodeId) → IsLeft (notes.Act a) (row rows p) p (row rows p)
 left-all rows a p = record { left = length (row rows p); first = sym (take-whole (row rows p)); few = tt }

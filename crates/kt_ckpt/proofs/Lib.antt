@@ -4,6 +4,8 @@ pub mod Primitive
 pub mod Values
 pub mod Tuples
 pub mod Ops
+pub mod ActCauses
+pub mod ActWhats
 pub mod ActFields
 pub mod Loop
 pub mod States
@@ -12,12 +14,14 @@ pub mod Nodes
 pub mod Peers
 pub mod Checkpoints
 pub mod Chains
-pub mod TakenLines
-pub mod NotedLines
+pub mod TakenLogs
+pub mod NotedLogs
 pub mod Gatherings
 pub mod OldFields
 pub mod OldOps
 pub mod OldRising
+pub mod OldWorkers
 pub mod OldStates
+pub mod OldParts
 pub mod OldCheckpoints
 pub mod Shared

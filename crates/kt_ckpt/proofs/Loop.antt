@@ -1,4 +1,8 @@
 -- Values read one after the other, as a loop does.
+-- Cited by Checkpoints, OldCheckpoints, OldRising, Peers, `act_bytes::acts_at`, `act_bytes::push_acts`,
+--   `encode::push_peers`, `entry::push_each`, `entry::rising_at`, `list::list_at`, `old_parts::old_list_at`,
+--   `old_state::old_rising_at`, `shard::push_tuples`, `tuple::push_places`, `tuple::push_values`,
+--   `worker::push_fields`.
 use Rattle.std.proofs.Common.{length, get_or, take, ◌≡◌, ◌≢◌, ℕ, suc, ◌-◌, ◌+◌, ◌≤◌, ◌<◌, List, [], ◌∷◌, ◌++◌, Result, Ok, Err, refl, sym, ap, ◌∙◌}
 use Rattle.std.proofs.Common.{append_assoc, arith}
 use Rattle.std.proofs.lemmas.List.{append-nil, flat_map_more, take_more}

@@ -1,4 +1,5 @@
 -- A node is a field.
+-- Cited by Checkpoints.
 use Rattle.std.proofs.Common.{◌≡◌, ℕ, ◌<◌, ◌≤◌, false, cond, eqb, List, [], ◌∷◌, Result, refl, arith}
 use Rattle.std.proofs.lemmas.Bool.{eqb-false}
 use Rattle.kt_tuple.specs.declared.node.NodeId.{NodeId}

@@ -1,4 +1,5 @@
 -- Operations and answers of format 1 are fields.
+-- Cited by OldStates, OldWorkers.
 use Rattle.std.proofs.Common.{◌≡◌, ℕ, ◌<◌, true, false, cond, eqb, List, [], Result, Ok, refl, sym, subst, arith}
 use Rattle.std.proofs.lemmas.Bool.{eqb-true, eqb-false}
 use Rattle.kt_tuple.specs.declared.value.Value.{Value}

@@ -1,4 +1,5 @@
 -- Operations and answers are fields.
+-- Cited by ActFields, ActWhats, Nodes, OldOps, OldParts, States.
 use Rattle.std.proofs.Common.{◌≡◌, ℕ, ◌<◌, false, cond, eqb, List, [], Result, Ok, refl, sym, subst, arith}
 use Rattle.std.proofs.lemmas.Bool.{eqb-true, eqb-false}
 use Rattle.kt_tuple.specs.declared.value.Value.{Value}

@@ -1,4 +1,5 @@
 -- The labels of the neighbours are a field.
+-- Cited by Checkpoints, OldCheckpoints, OldParts, decode.rt, `encode::push_labels`, `encode::push_peers`.
 use Rattle.std.proofs.Common.{◌≡◌, ℕ, ◌^◌, ◌≤◌, List, [], ◌∷◌, ◌++◌, length, map, Result, refl, sym, ap, ◌∙◌, arith}
 use Rattle.std.specs.Prelude.{All}
 use Rattle.std.specs.List.{flat_map, zip}

@@ -1,4 +1,6 @@
 -- Bytes, truths, numbers and lists are fields.
+-- Cited by ActCauses, ActFields, Checkpoints, Front, Nodes, OldOps, OldParts, OldRising, OldStates, OldWorkers, Ops,
+--   Peers, States, Tuples, Values, `entry::rising_at`.
 use Rattle.std.proofs.Common.{◌≡◌, ℕ, zero, suc, ◌+◌, ◌^◌, ◌<◌, ◌≤◌, Bool, true, false, cond, eqb, ltb, leb, ◌&&◌, List, [], ◌∷◌, ◌++◌, length, take, drop}
 use Rattle.std.proofs.Common.{Result, Ok, Err, refl, sym, ap, subst, ◌∙◌, append_assoc, arith}
 use Rattle.std.specs.Prelude.{All}

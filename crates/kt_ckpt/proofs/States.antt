@@ -1,4 +1,5 @@
 -- What a checkpoint holds of its node is a field.
+-- Cited by Checkpoints, `entry::push_entries`.
 use Rattle.std.proofs.Common.{◌≡◌, ℕ, ◌^◌, ◌<◌, ◌≤◌, Bool, true, false, List, [], ◌++◌, length, Option, Some, None, Result, refl, sym}
 use Rattle.std.proofs.Common.{ap, subst, ◌∙◌, arith}
 use Rattle.std.specs.Prelude.{All, IfSome}
@@ -11,7 +12,7 @@ use Rattle.kt_tuple.specs.declared.op.Answer.{Answer}
 use Rattle.kt_tuple.specs.Valid.{IsValue}
 use Rattle.kt_ckpt.specs.declared.error.CkptError.{CkptError}
 use Rattle.kt_shard.specs.declared.request.Request.{Request}
-use Rattle.kt_shard.specs.declared.request.Kept.{Kept}
+use Rattle.kt_shard.specs.declared.request.CachedReply.{CachedReply}
 use Rattle.kt_ckpt.specs.Fields.{WorkerFields, worker_of, ShardFields}
 use Rattle.kt_script.specs.declared.script.TheConstants.{MAX_COMMANDS, MAX_VARIABLES}
 use Rattle.kt_tuple.specs.declared.node.TheConstants.{MAX_WORKERS}
@@ -20,8 +21,9 @@ use Rattle.kt_ckpt.specs.Tuple.{IsTuple, tuple_bytes, tuple_at}
 use Rattle.kt_ckpt.specs.Op.{IsOp, op_bytes, op_at, answer_bytes, answer_at}
 use Rattle.kt_ckpt.specs.Flag.{flag_bytes, flag_at}
 use Rattle.kt_ckpt.specs.State.{IsWorker, asked_bytes, variables_bytes, worker_bytes, pc_at, asked_behind, asked_at, variables_at, worker_at}
-use Rattle.kt_ckpt.specs.State.{IsRequest, IsKept, IsShard, bag_bytes, request_bytes, kept_bytes, entry_bytes, entries_bytes, shard_bytes, bag_at, request_at}
-use Rattle.kt_ckpt.specs.State.{kept_at, entries_at, shard_at}
+use Rattle.kt_ckpt.specs.State.{IsRequest, IsCached, IsShard, bag_bytes, request_bytes, cached_bytes, entry_bytes, entries_bytes, shard_bytes, bag_at}
+use Rattle.kt_ckpt.specs.State.{request_at}
+use Rattle.kt_ckpt.specs.State.{cached_at, entries_at, shard_at}
 use Rattle.kt_ckpt.proofs.Field.{IsField, Lasts}
 use Rattle.kt_ckpt.proofs.Combined.{known, known_lasts, same_field, behind, behind_lasts, made_field, made_lasts}
 use Rattle.kt_ckpt.proofs.Primitive.{byte_within_field, byte_within_lasts, within_field, within_lasts, wide16, wide32, wide64, number_field, number_lasts}
@@ -195,24 +197,24 @@ request_lasts : Lasts request_at
 unfolding request_at
 request_lasts = let l = behind_lasts request_with (number_lasts w64) (λ n. made_lasts (request_of n) op_lasts) in record { goes_on = l.goes_on }
 
-abbrev kept_of : Request → Answer → Kept
-kept_of request answer = record { request = request; answer = answer }
+abbrev cached_of : Request → Answer → CachedReply
+cached_of request answer = record { request = request; answer = answer }
 
-abbrev kept_with : Request → List ℕ → Result (Kept × List ℕ) CkptError
-kept_with request bytes = made (kept_of request) (answer_at bytes)
+abbrev cached_with : Request → List ℕ → Result (CachedReply × List ℕ) CkptError
+cached_with request bytes = made (cached_of request) (answer_at bytes)
 
-kept_field : IsField kept_bytes IsKept kept_at
-unfolding kept_at
-kept_field =
-    let f = behind request_field (λ (k : Kept). k.request) (λ k. answer_bytes k.answer) IsKept kept_with (λ k h. h.request)
-    (λ r hr. made_field answer_field (kept_of r) (λ k. answer_bytes k.answer) (λ k. IsKept k × (r ≡ k.request)) (λ x h. refl)
+cached_field : IsField cached_bytes IsCached cached_at
+unfolding cached_at
+cached_field =
+    let f = behind request_field (λ (k : CachedReply). k.request) (λ k. answer_bytes k.answer) IsCached cached_with (λ k h. h.request)
+    (λ r hr. made_field answer_field (cached_of r) (λ k. answer_bytes k.answer) (λ k. IsCached k × (r ≡ k.request)) (λ x h. refl)
     (λ x h. (record { request = hr; answer = h }, refl))
-    (λ k h. (k.answer, (h.0.answer, ap (λ (m : Request). kept_of m k.answer) h.1)))) in
+    (λ k h. (k.answer, (h.0.answer, ap (λ (m : Request). cached_of m k.answer) h.1)))) in
     record { again = f.again; takes = f.takes }
 
-kept_lasts : Lasts kept_at
-unfolding kept_at
-kept_lasts = let l = behind_lasts kept_with request_lasts (λ r. made_lasts (kept_of r) answer_lasts) in record { goes_on = l.goes_on }
+cached_lasts : Lasts cached_at
+unfolding cached_at
+cached_lasts = let l = behind_lasts cached_with request_lasts (λ r. made_lasts (cached_of r) answer_lasts) in record { goes_on = l.goes_on }
 
 abbrev AreEntries : {X : Type 0} → (X → Type 0) → List (ℕ × X) → Type 0
 AreEntries IsAllowed xs = IsRising 1 xs × All (λ x. IsAllowed x.1) xs
@@ -236,11 +238,11 @@ entries_lasts {X} {read} l = let m = behind_lasts (rising_at read 1) (byte_withi
 
 -- ---- a shard
 
-abbrev shard_of : List Tuple → List (ℕ × Request) → List (ℕ × Kept) → ShardFields
-shard_of bag waiting kept = record { bag = bag; waiting = waiting; kept = kept }
+abbrev shard_of : List Tuple → List (ℕ × Request) → List (ℕ × CachedReply) → ShardFields
+shard_of bag waiting cached = record { bag = bag; waiting = waiting; cached = cached }
 
 abbrev with_waiting : List Tuple → List (ℕ × Request) → List ℕ → Result (ShardFields × List ℕ) CkptError
-with_waiting bag waiting bytes = made (shard_of bag waiting) (entries_at kept_at bytes)
+with_waiting bag waiting bytes = made (shard_of bag waiting) (entries_at cached_at bytes)
 
 abbrev with_bag : List Tuple → List ℕ → Result (ShardFields × List ℕ) CkptError
 with_bag bag bytes = entries_at request_at bytes >>= λ waiting. with_waiting bag waiting.0 waiting.1
@@ -248,19 +250,19 @@ with_bag bag bytes = entries_at request_at bytes >>= λ waiting. with_waiting ba
 pub shard_field : IsField shard_bytes IsShard shard_at
 unfolding shard_at
 shard_field =
-    let f = behind bag_field (λ (s : ShardFields). s.bag) (λ s. entries_bytes request_bytes s.waiting ++ entries_bytes kept_bytes s.kept) IsShard with_bag
+    let f = behind bag_field (λ (s : ShardFields). s.bag) (λ s. entries_bytes request_bytes s.waiting ++ entries_bytes cached_bytes s.cached) IsShard with_bag
     (λ s h. (h.few, h.bag))
-    (λ bag hb. behind (entries_field request_field) (λ (s : ShardFields). s.waiting) (λ s. entries_bytes kept_bytes s.kept) (λ s. IsShard s × (bag ≡ s.bag))
+    (λ bag hb. behind (entries_field request_field) (λ (s : ShardFields). s.waiting) (λ s. entries_bytes cached_bytes s.cached) (λ s. IsShard s × (bag ≡ s.bag))
     (with_waiting bag) (λ s h. (h.0.waiting_rises, h.0.waiting))
-    (λ waiting hw. made_field (entries_field kept_field) (shard_of bag waiting) (λ s. entries_bytes kept_bytes s.kept)
-    (λ s. (IsShard s × (bag ≡ s.bag)) × (waiting ≡ s.waiting)) (λ kept h. refl)
-    (λ kept h. ((record { few = hb.0; bag = hb.1; waiting_rises = hw.0; waiting = hw.1; kept_rises = h.0; kept = h.1 }, refl), refl))
+    (λ waiting hw. made_field (entries_field cached_field) (shard_of bag waiting) (λ s. entries_bytes cached_bytes s.cached)
+    (λ s. (IsShard s × (bag ≡ s.bag)) × (waiting ≡ s.waiting)) (λ cached h. refl)
+    (λ cached h. ((record { few = hb.0; bag = hb.1; waiting_rises = hw.0; waiting = hw.1; cached_rises = h.0; cached = h.1 }, refl), refl))
     (λ s h. (
-      s.kept,
+      s.cached,
       (
-        (h.0.0.kept_rises, h.0.0.kept),
-        ap (λ (b : List Tuple). shard_of b waiting s.kept) h.0.1
-            ∙ ap (λ (w : List (ℕ × Request)). shard_of s.bag w s.kept) h.1,
+        (h.0.0.cached_rises, h.0.0.cached),
+        ap (λ (b : List Tuple). shard_of b waiting s.cached) h.0.1
+            ∙ ap (λ (w : List (ℕ × Request)). shard_of s.bag w s.cached) h.1,
       ),
     )))) in
     record { again = f.again; takes = f.takes }
@@ -269,5 +271,5 @@ pub shard_lasts : Lasts shard_at
 unfolding shard_at
 shard_lasts =
     let l = behind_lasts with_bag bag_lasts
-    (λ bag. behind_lasts (with_waiting bag) (entries_lasts request_lasts) (λ waiting. made_lasts (shard_of bag waiting) (entries_lasts kept_lasts))) in
+    (λ bag. behind_lasts (with_waiting bag) (entries_lasts request_lasts) (λ waiting. made_lasts (shard_of bag waiting) (entries_lasts cached_lasts))) in
     record { goes_on = l.goes_on }

@@ -1,4 +1,5 @@
 -- Tuples and templates are fields.
+-- Cited by OldFields, OldParts, OldWorkers, Ops, Peers, States.
 use Rattle.std.proofs.Common.{◌≡◌, ℕ, ◌<◌, ◌≤◌, List, ◌∷◌, length, Result, refl, sym, subst, arith}
 use Rattle.std.specs.Prelude.{All}
 use Rattle.std.specs.List.{flat_map}

@@ -1,4 +1,8 @@
--- The acts of a line: which a node's line may hold, and their bytes.
+-- The acts of a log: which a node's log may hold, and their bytes.
+-- Cited by ActCauses, ActFields, ActWhats, Checkpoints, Gatherings, OldCheckpoints, OldParts, act_bytes.rt, acts.rt,
+--   decode.rt, old.rt, past.rt, specs/Checkpoint, specs/LogActs, specs/Old, specs/auxiliary/Gathered, `Past::acts`,
+--   `Past::are_fit`, `act_bytes::acts_at`, `act_bytes::push_acts`, `act_bytes::push_log`, `past::are_fit_behind`;
+--   kt_core, kt_model, kt_node, kt_resume, kt_state.
 use Rattle.std.specs.Prelude.{◌≡◌, ℕ, ◌≤◌, ◌<◌, ◌^◌, ◌==◌, nat_le, Bool, true, false, not, ◌&&◌, if◌then◌else◌}
 use Rattle.std.specs.Prelude.{List, [], ◌∷◌, ◌++◌, Option, None, Some, IfSome, Result, Ok, Err, IsTrue}
 use Rattle.std.specs.Int.{w64, to_be_bytes}
@@ -7,7 +11,7 @@ use Rattle.kt_tuple.specs.declared.node.NodeId.TheVariants.{Worker, Shard}
 use Rattle.kt_tuple.specs.declared.op.Answer.{Answer}
 use Rattle.kt_history.specs.declared.note.What.{What}
 use Rattle.kt_history.specs.declared.note.What.TheVariants as whats
-use Rattle.kt_ckpt.specs.declared.acts.LineAct.{LineAct}
+use Rattle.kt_ckpt.specs.declared.acts.LogAct.{LogAct}
 use Rattle.kt_ckpt.specs.declared.error.CkptError.{CkptError}
 use Rattle.kt_ckpt.specs.declared.error.CkptError.TheVariants.{Field}
 use Rattle.kt_ckpt.specs.Limits.{worker_code, shard_code, issue_code, repeat_code}
@@ -17,7 +21,7 @@ use Rattle.kt_ckpt.specs.Reading.{◌>>=◌, made, byte_at, number_at}
 use Rattle.kt_ckpt.specs.Node.{node_bytes}
 use Rattle.kt_ckpt.specs.Op.{IsOp, IsAnswer, op_bytes, op_at, answer_bytes, answer_at}
 
--- ---- which acts stand in whose line
+-- ---- which acts stand in whose log
 
 -- a worker issues, repeats, accepts, and ignores an answer; a shard hears, serves, answers again, and ignores a request
 abbrev pub is_done_by : NodeId → What → Bool
@@ -52,11 +56,11 @@ abbrev pub is_caused : NodeId → ℕ → What → Option (NodeId × ℕ) → Bo
 is_caused p worker what None = is_own_will what
 is_caused p worker what (Some by) = not (is_own_will what) && (may_send p worker by.0 && nat_le 1 by.1)
 
--- the act may stand in the line of p
-abbrev pub is_act_of : NodeId → LineAct → Bool
+-- the act may stand in the log of p
+abbrev pub is_act_of : NodeId → LogAct → Bool
 is_act_of p a = is_done_by p a.what && (is_about p a.worker && is_caused p a.worker a.what a.by)
 
-abbrev pub IsActOf : NodeId → LineAct → Type 0
+abbrev pub IsActOf : NodeId → LogAct → Type 0
 IsActOf p a = IsTrue (is_act_of p a)
 
 -- ---- bytes
@@ -89,13 +93,13 @@ abbrev pub by_bytes : Option (NodeId × ℕ) → List ℕ
 by_bytes None = 0 ∷ []
 by_bytes (Some by) = 1 ∷ (node_bytes by.0 ++ to_be_bytes w64 by.1)
 
-abbrev pub act_bytes : LineAct → List ℕ
+abbrev pub act_bytes : LogAct → List ℕ
 act_bytes a =
     what_code a.what ∷ (a.worker ∷ (by_bytes a.by ++ (to_be_bytes w64 a.number
     ++ (op_bytes a.op ++ told_bytes (answer_of a.what)))))
 
--- what of an act has a spelling, besides that it may stand in a line
-pub record IsSpelledAct (a : LineAct) : Type 0 where
+-- what of an act has a spelling, besides that it may stand in a log
+pub record IsSpelledAct (a : LogAct) : Type 0 where
   pub by : IfSome a.by (λ by. by.1 < 2 ^ 64)
   pub number : a.number < 2 ^ 64
   pub op : IsOp a.op
@@ -175,7 +179,7 @@ what_behind p code bytes =
     else if code == accepted_code then made whats.Accepted (answer_at bytes)
     else ignored_by p bytes
 
-unfoldable pub act_at : NodeId → List ℕ → Result (LineAct × List ℕ) CkptError
+unfoldable pub act_at : NodeId → List ℕ → Result (LogAct × List ℕ) CkptError
 act_at p bytes = do
   code ← byte_such (is_code_for p) bytes
   worker ← byte_such (is_about p) code.1

@@ -1,4 +1,7 @@
 -- A checkpoint, its one spelling, and how it is read.
+-- Cited by Checkpoints, Front, OldCheckpoints, OldParts, OldStates, Peers, ckpt.rt, decode.rt, encode.rt, old.rt,
+--   old_state.rt, specs/Header, specs/Old, specs/OldLimits, `Ckpt::decode_old`, `Ckpt::decode`, `encode::push_peers`;
+--   kt_model, kt_node, kt_resume, kt_sql_tables, kt_state.
 use Rattle.std.specs.Prelude.{◌≡◌, ℕ, ◌≤◌, ◌<◌, ◌^◌, ◌==◌, nat_eq, if◌then◌else◌}
 use Rattle.std.specs.Prelude.{List, [], ◌∷◌, ◌++◌, length, map, Result, Ok, Err, All}
 use Rattle.std.specs.List.{flat_map, zip}
@@ -13,14 +16,14 @@ use Rattle.kt_ckpt.specs.declared.state.State.{State}
 use Rattle.kt_ckpt.specs.declared.state.State.TheVariants as states
 use Rattle.kt_ckpt.specs.Limits.{magic, version}
 use Rattle.kt_ckpt.specs.declared.limits.TheConstants.{MAX_PEERS}
-use Rattle.kt_ckpt.specs.declared.acts.LineAct.{LineAct}
+use Rattle.kt_ckpt.specs.declared.acts.LogAct.{LogAct}
 use Rattle.kt_ckpt.specs.Node.{IsNode, node_bytes, node_at}
 use Rattle.kt_ckpt.specs.Acts.{IsActOf, IsSpelledAct, act_bytes, act_at}
 use Rattle.kt_ckpt.specs.Reading.{◌>>=◌, made, byte_at, bytes_at, byte_within, number_at, list_at}
 use Rattle.kt_ckpt.specs.State.{IsWorker, IsShard, IsCountedWorker, IsCountedShard}
 use Rattle.kt_ckpt.specs.State.{worker_bytes, shard_bytes, worker_at, shard_at}
 
--- a node, the length of its line, for each neighbour in node order the last label sent to it and heard from it, and
+-- a node, the length of its log, for each neighbour in node order the last label sent to it and heard from it, and
 -- what the node held
 pub record Checkpoint : Type 0 where
   pub node : NodeId
@@ -28,9 +31,9 @@ pub record Checkpoint : Type 0 where
   pub sent : List Label
   pub received : List Label
   pub state : State
-  pub acts : List LineAct
+  pub acts : List LogAct
 
-abbrev pub made_of : NodeId → ℕ → List Label → List Label → State → List LineAct → Checkpoint
+abbrev pub made_of : NodeId → ℕ → List Label → List Label → State → List LogAct → Checkpoint
 made_of node line_len sent received state acts = record {
   node = node;
   line_len = line_len;
@@ -63,7 +66,7 @@ pub record HasCounts (c : Checkpoint) : Type 0 where
   pub state : IsCountedState c.state
   pub long : length c.acts ≡ c.line_len
 
--- each act may stand in the node's line
+-- each act may stand in the node's log
 abbrev pub HasShape : Checkpoint → Type 0
 HasShape c = All (IsActOf c.node) c.acts
 
@@ -141,7 +144,7 @@ unfoldable pub state_at : NodeId → List ℕ → Result (State × List ℕ) Ckp
 state_at (Worker i) bytes = made states.Worker (worker_at bytes)
 state_at (Shard i) bytes = made states.Shard (shard_at bytes)
 
-abbrev pub checkpoint_of : NodeId → ℕ → List (Label × Label) → State → List LineAct → Checkpoint
+abbrev pub checkpoint_of : NodeId → ℕ → List (Label × Label) → State → List LogAct → Checkpoint
 checkpoint_of node line_len peers state acts =
     made_of node line_len (map (λ p. p.0) peers) (map (λ p. p.1) peers) state acts
 

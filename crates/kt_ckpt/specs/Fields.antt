@@ -1,10 +1,12 @@
 -- A checkpoint as plain data.
+-- Cited by Checkpoints, OldStates, OldWorkers, States, specs/OldLimits, specs/OldState, specs/State, state.rt,
+--   worker.rt; kt_resume, kt_state.
 use Rattle.std.specs.Prelude.{ℕ, Bool, List, Option}
 use Rattle.kt_tuple.specs.declared.value.Value.{Value}
 use Rattle.kt_tuple.specs.declared.tuple.Tuple.{Tuple}
 use Rattle.kt_tuple.specs.declared.op.Op.{Op}
 use Rattle.kt_shard.specs.declared.request.Request.{Request}
-use Rattle.kt_shard.specs.declared.request.Kept.{Kept}
+use Rattle.kt_shard.specs.declared.request.CachedReply.{CachedReply}
 
 -- a worker: the number of its next command, that of its last request, whether its last answer was none, what it asked
 -- for and has no answer to, and the values of its variables
@@ -28,4 +30,4 @@ worker_of pc number was_none asked variables = record {
 pub record ShardFields : Type 0 where
   pub bag : List Tuple
   pub waiting : List (ℕ × Request)
-  pub kept : List (ℕ × Kept)
+  pub cached : List (ℕ × CachedReply)

@@ -1,4 +1,6 @@
 -- A truth in one byte.
+-- Cited by OldWorkers, Primitive, States, numbers.rt, specs/OldState, specs/State, specs/Value,
+--   `worker::push_fields`.
 use Rattle.std.specs.Prelude.{ℕ, ◌==◌, Bool, if◌then◌else◌, List, [], ◌∷◌, Result}
 use Rattle.kt_ckpt.specs.declared.error.CkptError.{CkptError}
 use Rattle.kt_ckpt.specs.Reading.{made, byte_within}

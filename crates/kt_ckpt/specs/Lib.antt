@@ -8,11 +8,11 @@ pub mod Fields
 pub mod State
 pub mod Node
 pub mod Acts
-pub mod LineActs
+pub mod LogActs
 pub mod Checkpoint
-pub mod Marks
+pub mod Header
 pub mod OldLimits
 pub mod OldParts
 pub mod OldState
 pub mod Old
-pub mod inner
+pub mod auxiliary

@@ -1,4 +1,6 @@
 -- The codes of the format, each once. Its limits are those of tuples, scripts and nodes.
+-- Cited by ActWhats, Checkpoints, Front, Nodes, OldCheckpoints, OldOps, OldParts, Ops, Values, decode.rt, encode.rt,
+--   old.rt, specs/Acts, specs/Checkpoint, specs/Node, specs/Old, specs/OldParts, specs/Op, specs/Value.
 use Rattle.std.specs.Prelude.{ℕ, List, codes}
 
 -- the bytes that each checkpoint begins with

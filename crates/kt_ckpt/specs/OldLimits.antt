@@ -1,4 +1,6 @@
 -- What format 1 can hold: it knows no bool, and at most 8 places of a tuple, 8 workers and 8 neighbours.
+-- Cited by OldCheckpoints, OldFields, OldOps, OldParts, OldRising, OldStates, old.rt, old_parts.rt, old_state.rt,
+--   specs/Old; kt_sql_tables.
 use Rattle.std.specs.Prelude.{ℕ, nat_le, Bool, true, false, ◌&&◌, List, length, Option, None, Some}
 use Rattle.std.specs.List.{list_all}
 use Rattle.kt_tuple.specs.declared.node.NodeId.{NodeId}
@@ -13,7 +15,7 @@ use Rattle.kt_tuple.specs.declared.op.Op.TheVariants.{Out, In, Rd, Inp, Rdp}
 use Rattle.kt_tuple.specs.declared.op.Answer.{Answer}
 use Rattle.kt_tuple.specs.declared.op.Answer.TheVariants as answers
 use Rattle.kt_shard.specs.declared.request.Request.{Request}
-use Rattle.kt_shard.specs.declared.request.Kept.{Kept}
+use Rattle.kt_shard.specs.declared.request.CachedReply.{CachedReply}
 use Rattle.kt_ckpt.specs.declared.state.State.{State}
 use Rattle.kt_ckpt.specs.declared.state.State.TheVariants as states
 use Rattle.kt_ckpt.specs.declared.old_limits.TheConstants.{OLD_PLACES, OLD_WORKERS, OLD_PEERS}
@@ -65,8 +67,8 @@ is_old_worker w = is_old_asked w.asked && list_all is_old_value w.variables
 abbrev pub is_old_request : Request → Bool
 is_old_request r = is_old_op r.op
 
-abbrev pub is_old_kept : Kept → Bool
-is_old_kept k = is_old_request k.request && is_old_answer k.answer
+abbrev pub is_old_cached : CachedReply → Bool
+is_old_cached k = is_old_request k.request && is_old_answer k.answer
 
 -- it is kept for one of 8 workers
 abbrev pub is_old_entry : {X : Type 0} → (X → Bool) → ℕ × X → Bool
@@ -75,7 +77,7 @@ is_old_entry holds x = nat_le x.0 OLD_WORKERS && holds x.1
 abbrev pub is_old_shard : ShardFields → Bool
 is_old_shard s =
     list_all is_old_tuple s.bag
-    && (list_all (is_old_entry is_old_request) s.waiting && list_all (is_old_entry is_old_kept) s.kept)
+    && (list_all (is_old_entry is_old_request) s.waiting && list_all (is_old_entry is_old_cached) s.cached)
 
 abbrev pub is_old_state : State → Bool
 is_old_state (states.Worker w) = is_old_worker w

@@ -1,5 +1,6 @@
 -- How values, tuples and operations of format 1 are read. Each is spelled as it is now; but it may hold less, and each
 -- field is judged by that as it is read.
+-- Cited by OldFields, OldOps, OldStates, old_parts.rt, specs/OldState.
 use Rattle.std.specs.Prelude.{ℕ, ◌==◌, Bool, not, ◌&&◌, if◌then◌else◌, List, [], ◌∷◌, Result, Ok, Err}
 use Rattle.kt_tuple.specs.declared.value.Value.{Value}
 use Rattle.kt_tuple.specs.declared.template.Place.{Place}

@@ -1,4 +1,5 @@
 -- How what a node held is read in format 1.
+-- Cited by OldCheckpoints, OldRising, OldStates, OldWorkers, old_state.rt, specs/Old, `old_state::old_rising_at`.
 use Rattle.std.specs.Prelude.{ℕ, zero, suc, ◌+◌, Bool, true, false, List, [], ◌∷◌, Option, None, Some, Result, Ok}
 use Rattle.std.specs.Int.{w32, w64}
 use Rattle.kt_tuple.specs.declared.node.NodeId.{NodeId}
@@ -8,7 +9,7 @@ use Rattle.kt_tuple.specs.declared.tuple.Tuple.{Tuple}
 use Rattle.kt_tuple.specs.declared.op.Op.{Op}
 use Rattle.kt_script.specs.declared.script.TheConstants.{MAX_VARIABLES}
 use Rattle.kt_shard.specs.declared.request.Request.{Request}
-use Rattle.kt_shard.specs.declared.request.Kept.{Kept}
+use Rattle.kt_shard.specs.declared.request.CachedReply.{CachedReply}
 use Rattle.kt_ckpt.specs.declared.error.CkptError.{CkptError}
 use Rattle.kt_ckpt.specs.declared.old_limits.TheConstants.{OLD_WORKERS}
 use Rattle.kt_ckpt.specs.declared.state.State.{State}
@@ -54,8 +55,8 @@ old_request_at bytes = do
   op ← old_op_at number.1
   Ok (record { number = number.0; op = op.0 }, op.1)
 
-unfoldable pub old_kept_at : List ℕ → Result (Kept × List ℕ) CkptError
-old_kept_at bytes = do
+unfoldable pub old_cached_at : List ℕ → Result (CachedReply × List ℕ) CkptError
+old_cached_at bytes = do
   request ← old_request_at bytes
   answer ← old_answer_at request.1
   Ok (record { request = request.0; answer = answer.0 }, answer.1)
@@ -79,8 +80,8 @@ unfoldable pub old_shard_at : List ℕ → Result (ShardFields × List ℕ) Ckpt
 old_shard_at bytes = do
   bag ← old_bag_at bytes
   waiting ← old_entries_at old_request_at bag.1
-  kept ← old_entries_at old_kept_at waiting.1
-  Ok (record { bag = bag.0; waiting = waiting.0; kept = kept.0 }, kept.1)
+  cached ← old_entries_at old_cached_at waiting.1
+  Ok (record { bag = bag.0; waiting = waiting.0; cached = cached.0 }, cached.1)
 
 -- the state of this node
 unfoldable pub old_state_at : NodeId → List ℕ → Result (State × List ℕ) CkptError

@@ -1,4 +1,6 @@
 -- Operations and answers in bytes: a code for which it is, and its tuple or template.
+-- Cited by ActFields, ActWhats, OldOps, OldStates, OldWorkers, Ops, States, act_bytes.rt, op.rt, specs/Acts,
+--   specs/State, worker.rt.
 use Rattle.std.specs.Prelude.{ℕ, ◌==◌, if◌then◌else◌, List, [], ◌∷◌, Result, Ok, Err}
 use Rattle.kt_tuple.specs.declared.op.Op.{Op}
 use Rattle.kt_tuple.specs.declared.op.Op.TheVariants.{Out, In, Rd, Inp, Rdp}

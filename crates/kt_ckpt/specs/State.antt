@@ -1,4 +1,6 @@
 -- What a checkpoint holds of its node, in bytes.
+-- Cited by Checkpoints, OldStates, OldWorkers, States, entry.rt, old_state.rt, shard.rt, specs/Checkpoint,
+--   specs/OldState, worker.rt, `entry::push_each`, `worker::push_fields`.
 use Rattle.std.specs.Prelude.{ℕ, ◌≤◌, ◌<◌, ◌^◌, Bool, true, false}
 use Rattle.std.specs.Prelude.{List, [], ◌∷◌, ◌++◌, length, Option, None, Some, IfSome, Result, Ok, All}
 use Rattle.std.specs.List.{flat_map}
@@ -9,7 +11,7 @@ use Rattle.kt_tuple.specs.declared.op.Op.{Op}
 use Rattle.kt_tuple.specs.Valid.{IsValue}
 use Rattle.kt_ckpt.specs.declared.error.CkptError.{CkptError}
 use Rattle.kt_shard.specs.declared.request.Request.{Request}
-use Rattle.kt_shard.specs.declared.request.Kept.{Kept}
+use Rattle.kt_shard.specs.declared.request.CachedReply.{CachedReply}
 use Rattle.kt_ckpt.specs.Fields.{WorkerFields, worker_of, ShardFields}
 use Rattle.kt_script.specs.declared.script.TheConstants.{MAX_COMMANDS, MAX_VARIABLES}
 use Rattle.kt_tuple.specs.declared.node.TheConstants.{MAX_WORKERS}
@@ -76,13 +78,13 @@ worker_at bytes = do
 -- ---- a shard
 
 abbrev pub IsCountedShard : ShardFields → Type 0
-IsCountedShard s = (length s.bag < 2 ^ 32) × IsRising 1 s.waiting × IsRising 1 s.kept
+IsCountedShard s = (length s.bag < 2 ^ 32) × IsRising 1 s.waiting × IsRising 1 s.cached
 
 pub record IsRequest (r : Request) : Type 0 where
   pub number : r.number < 2 ^ 64
   pub op : IsOp r.op
 
-pub record IsKept (k : Kept) : Type 0 where
+pub record IsCached (k : CachedReply) : Type 0 where
   pub request : IsRequest k.request
   pub answer : IsAnswer k.answer
 
@@ -92,8 +94,8 @@ pub record IsShard (s : ShardFields) : Type 0 where
   pub bag : All IsTuple s.bag
   pub waiting_rises : IsRising 1 s.waiting
   pub waiting : All (λ x. IsRequest x.1) s.waiting
-  pub kept_rises : IsRising 1 s.kept
-  pub kept : All (λ x. IsKept x.1) s.kept
+  pub cached_rises : IsRising 1 s.cached
+  pub cached : All (λ x. IsCached x.1) s.cached
 
 abbrev pub bag_bytes : List Tuple → List ℕ
 bag_bytes tuples = to_be_bytes w32 (length tuples) ++ flat_map tuple_bytes tuples
@@ -101,8 +103,8 @@ bag_bytes tuples = to_be_bytes w32 (length tuples) ++ flat_map tuple_bytes tuple
 abbrev pub request_bytes : Request → List ℕ
 request_bytes r = to_be_bytes w64 r.number ++ op_bytes r.op
 
-abbrev pub kept_bytes : Kept → List ℕ
-kept_bytes k = request_bytes k.request ++ answer_bytes k.answer
+abbrev pub cached_bytes : CachedReply → List ℕ
+cached_bytes k = request_bytes k.request ++ answer_bytes k.answer
 
 -- a worker, and what is held for it
 abbrev pub entry_bytes : {X : Type 0} → (X → List ℕ) → ℕ × X → List ℕ
@@ -112,7 +114,7 @@ abbrev pub entries_bytes : {X : Type 0} → (X → List ℕ) → List (ℕ × X)
 entries_bytes spelled entries = length entries ∷ flat_map (entry_bytes spelled) entries
 
 abbrev pub shard_bytes : ShardFields → List ℕ
-shard_bytes s = bag_bytes s.bag ++ (entries_bytes request_bytes s.waiting ++ entries_bytes kept_bytes s.kept)
+shard_bytes s = bag_bytes s.bag ++ (entries_bytes request_bytes s.waiting ++ entries_bytes cached_bytes s.cached)
 
 unfoldable pub bag_at : List ℕ → Result (List Tuple × List ℕ) CkptError
 bag_at bytes = do
@@ -125,8 +127,8 @@ request_at bytes = do
   op ← op_at number.1
   Ok (record { number = number.0; op = op.0 }, op.1)
 
-unfoldable pub kept_at : List ℕ → Result (Kept × List ℕ) CkptError
-kept_at bytes = do
+unfoldable pub cached_at : List ℕ → Result (CachedReply × List ℕ) CkptError
+cached_at bytes = do
   request ← request_at bytes
   answer ← answer_at request.1
   Ok (record { request = request.0; answer = answer.0 }, answer.1)
@@ -141,5 +143,5 @@ unfoldable pub shard_at : List ℕ → Result (ShardFields × List ℕ) CkptErro
 shard_at bytes = do
   bag ← bag_at bytes
   waiting ← entries_at request_at bag.1
-  kept ← entries_at kept_at waiting.1
-  Ok (record { bag = bag.0; waiting = waiting.0; kept = kept.0 }, kept.1)
+  cached ← entries_at cached_at waiting.1
+  Ok (record { bag = bag.0; waiting = waiting.0; cached = cached.0 }, cached.1)

@@ -1,4 +1,6 @@
 -- Tuples and templates in bytes: how many values or places there are, and these.
+-- Cited by OldFields, OldStates, Ops, States, Tuples, shard.rt, specs/Op, specs/State, tuple.rt,
+--   `shard::push_tuples`.
 use Rattle.std.specs.Prelude.{List, ◌∷◌, ℕ, length, Result, All}
 use Rattle.std.specs.List.{flat_map}
 use Rattle.kt_tuple.specs.declared.value.Value.{Value}

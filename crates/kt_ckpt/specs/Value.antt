@@ -1,4 +1,6 @@
 -- Values and places in bytes: a code for the kind, and what is behind it.
+-- Cited by OldFields, Values, specs/OldParts, specs/State, specs/Tuple, tuple.rt, value.rt, `tuple::push_places`,
+--   `tuple::push_values`.
 use Rattle.std.specs.Prelude.{ℕ, ◌==◌, if◌then◌else◌, List, [], ◌∷◌, length, Result, Ok, Err}
 use Rattle.std.specs.List.{list_all}
 use Rattle.std.specs.Int.{w64, to_be_bytes, cast_signed, cast_unsigned}

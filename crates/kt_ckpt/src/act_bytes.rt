@@ -1,4 +1,5 @@
-//! The acts of a line in bytes.
+//! The acts of a log in bytes.
+//! Cited by decode.rt, encode.rt.
 
 ghost use Rattle.std.specs.Prelude.{◌≡◌, ◌==◌, ◌<◌, ◌^◌, ◌++◌, All, IfOk, IfSome, OnOk, length, map};
 ghost use Rattle.std.specs.Option.{option_copied};
@@ -10,7 +11,7 @@ ghost use Rattle.kt_ckpt.specs.Node.{IsNode};
 ghost use Rattle.kt_ckpt.specs.Op.{IsAnswer};
 ghost use Rattle.kt_ckpt.specs.Reading.{Gives, list_at};
 
-use crate::acts::LineAct;
+use crate::acts::LogAct;
 use crate::chain::Acts;
 use crate::encode::push_node;
 use crate::error::CkptError;
@@ -71,7 +72,7 @@ fn push_told(out: &mut Vec<u8>, what: &What) -> Result<(), AllocError>
     }
 }
 
-fn push_act(out: &mut Vec<u8>, act: &LineAct) -> Result<(), AllocError>
+fn push_act(out: &mut Vec<u8>, act: &LogAct) -> Result<(), AllocError>
     ensures ok { OnOk result (out.new.items ≡ out.old.items ++ act_bytes act.now) }
     ensures held { OnOk result (IsSpelledAct act.now) }
 {
@@ -83,8 +84,8 @@ fn push_act(out: &mut Vec<u8>, act: &LineAct) -> Result<(), AllocError>
     push_told(out, &act.what)
 }
 
-/// Appends the acts of a line, oldest first.
-pub(crate) fn push_line(alloc: Global, out: &mut Vec<u8>, acts: &Acts) -> Result<(), AllocError>
+/// Appends the acts of a log, oldest first.
+pub(crate) fn push_log(alloc: Global, out: &mut Vec<u8>, acts: &Acts) -> Result<(), AllocError>
     ensures ok { OnOk result (out.new.items ≡ out.old.items ++ flat_map act_bytes acts.now) }
     ensures held { OnOk result (All IsSpelledAct acts.now) }
 {
@@ -93,7 +94,7 @@ pub(crate) fn push_line(alloc: Global, out: &mut Vec<u8>, acts: &Acts) -> Result
 }
 
 /// Appends the acts, one behind the other.
-fn push_acts(out: &mut Vec<u8>, acts: &[&LineAct]) -> Result<(), AllocError>
+fn push_acts(out: &mut Vec<u8>, acts: &[&LogAct]) -> Result<(), AllocError>
     ensures ok { OnOk result (out.new.items ≡ out.old.items ++ flat_map act_bytes (map (λ a. a.now) acts.now)) }
     ensures held { OnOk result (All IsSpelledAct (map (λ a. a.now) acts.now)) }
 {
@@ -279,7 +280,7 @@ fn ignored_by(alloc: Global, node: NodeId, bytes: &[u8]) -> Result<(What, &[u8])
 }
 
 #[tactic(auto, unfolding(crate::specs::Acts::act_at))]
-fn act_at(alloc: Global, node: NodeId, bytes: &[u8]) -> Result<(LineAct, &[u8]), CkptError>
+fn act_at(alloc: Global, node: NodeId, bytes: &[u8]) -> Result<(LogAct, &[u8]), CkptError>
     ensures { Gives (λ x. (x.0, x.1.now)) result (act_at node bytes.now) }
 {
     let (code, rest) = code_at(node, bytes)?;
@@ -288,7 +289,7 @@ fn act_at(alloc: Global, node: NodeId, bytes: &[u8]) -> Result<(LineAct, &[u8]),
     let (number, rest) = u64_at(rest)?;
     let (op, rest) = op_at(alloc, rest)?;
     let (what, rest) = what_behind(alloc, node, code, rest)?;
-    let act = LineAct {
+    let act = LogAct {
         by,
         worker,
         number,
@@ -298,13 +299,13 @@ fn act_at(alloc: Global, node: NodeId, bytes: &[u8]) -> Result<(LineAct, &[u8]),
     Ok((act, rest))
 }
 
-/// So many acts of the node's line, and the bytes behind them.
+/// So many acts of the node's log, and the bytes behind them.
 pub(crate) fn acts_at(
     alloc: Global,
     node: NodeId,
     count: u64,
     bytes: &[u8],
-) -> Result<(Vec<LineAct>, &[u8]), CkptError>
+) -> Result<(Vec<LogAct>, &[u8]), CkptError>
     requires { IsNode node }
     ensures value { Gives (λ x. (x.0.items, x.1.now)) result (list_at (act_at node) count bytes.now) }
     ensures len { IfOk result (λ x. length x.0.items ≡ count) }

@@ -1,4 +1,5 @@
-//! What a node did, as its checkpoint holds it, and which acts may stand in whose line.
+//! What a node did, as its checkpoint holds it, and which acts may stand in whose log.
+//! Cited by act_bytes.rt, chain.rt, decode.rt, old.rt, past.rt; kt_resume.
 
 ghost use Rattle.std.specs.Prelude.{◌≡◌, ◌↔◌, ◌&&◌, All, IfOk, IsTrue};
 ghost use Rattle.std.specs.List.{list_all};
@@ -8,10 +9,10 @@ use kt_history::What;
 use kt_tuple::{MAX_SHARDS, MAX_WORKERS, NodeId, Op};
 use std::alloc::{AllocError, Global};
 
-/// An act of the node's line. Its node is the checkpoint's.
+/// An act of the node's log. Its node is the checkpoint's.
 #[derive(Debug, Drop)]
-pub struct LineAct {
-    /// The act that sent what was heard: its node, and its place in that node's line when it was made, counted from 1.
+pub struct LogAct {
+    /// The act that sent what was heard: its node, and its place in that node's log when it was made, counted from 1.
     pub by: Option<(NodeId, u64)>,
     /// The worker whose request it is, counted from 1.
     pub worker: u8,
@@ -23,8 +24,8 @@ pub struct LineAct {
     pub what: What,
 }
 
-impl LineAct {
-    /// Whether it may stand in the line of the node. A worker issues, repeats and accepts its own requests, and may
+impl LogAct {
+    /// Whether it may stand in the log of the node. A worker issues, repeats and accepts its own requests, and may
     /// ignore an answer; a shard hears, serves and answers again, and may ignore a request. Whatever heard something
     /// names who sent it: a node of the other kind, and of a shard's acts their own worker.
     pub fn may_be_of(&self, node: NodeId) -> bool
@@ -34,10 +35,10 @@ impl LineAct {
     }
 
     /// An equal one.
-    pub fn copy(&self, alloc: Global) -> Result<LineAct, AllocError>
+    pub fn copy(&self, alloc: Global) -> Result<LogAct, AllocError>
         ensures { IfOk result (λ a. a ≡ self.now) }
     {
-        Ok(LineAct {
+        Ok(LogAct {
             by: self.by,
             worker: self.worker,
             number: self.number,
@@ -47,15 +48,15 @@ impl LineAct {
     }
 }
 
-/// Whether each of the acts may stand in the line of the node, as `LineAct::may_be_of` tells of one.
-pub fn are_acts_of(node: NodeId, acts: &[LineAct]) -> bool
+/// Whether each of the acts may stand in the log of the node, as `LogAct::may_be_of` tells of one.
+pub fn are_acts_of(node: NodeId, acts: &[LogAct]) -> bool
     ensures value { result ≡ list_all (is_act_of node) acts.now }
     ensures all { IsTrue result ↔ All (IsActOf node) acts.now }
 {
     acts.iter().all(|act| act.may_be_of(node))
 }
 
-/// Whether an act may stand in the line of the node that is about this worker, and heard what this act sent.
+/// Whether an act may stand in the log of the node that is about this worker, and heard what this act sent.
 pub(crate) fn may_stand(node: NodeId, worker: u8, what: &What, by: Option<(NodeId, u64)>) -> bool
     ensures { result ≡ (is_done_by node what.now && (is_about node worker && is_caused node worker what.now by)) }
 {

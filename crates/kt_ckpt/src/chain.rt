@@ -1,16 +1,17 @@
-//! The acts of a line, shared.
+//! The acts of a log, shared.
+//! Cited by act_bytes.rt, acts.rt, ckpt.rt, decode.rt, encode.rt, old.rt, past.rt; kt_node, kt_resume, kt_state.
 
 ghost use Rattle.std.specs.Prelude.{◌≡◌, ◌+◌, ◌-◌, ◌<◌, ◌≤◌, ◌^◌, ◌++◌, [], ℕ, IfOk, OnOk, IsTrue};
 ghost use Rattle.std.specs.Prelude.{◌↔◌, length, map, reverse, take};
-ghost use Rattle.kt_ckpt.specs.inner.Chain.{IsChain, in_blocks};
+ghost use Rattle.kt_ckpt.specs.auxiliary.Chain.{IsChain, in_blocks};
 
-use crate::acts::LineAct;
+use crate::acts::LogAct;
 use std::alloc::{AllocError, Global};
 use std::fmt;
 use std::marker::Model;
 use std::sync::Arc;
 
-/// Acts of a node's line, oldest first. They stand in blocks, each of those that came at one time, and each block leads
+/// Acts of a node's log, oldest first. They stand in blocks, each of those that came at one time, and each block leads
 /// to the one before it. A block never changes and is shared: so a copy takes one pointer, more acts cost what they are
 /// themselves, and acts are given up without a copy of those that stay.
 #[cycle(acts)]
@@ -31,16 +32,16 @@ enum Link {
 #[derive(Drop)]
 struct Block {
     older: Acts,
-    acts: Vec<LineAct>,
+    acts: Vec<LogAct>,
 }
 
 impl Model for Acts {
     ghost use Rattle.std.specs.Prelude.{List, length, take};
-    ghost use Rattle.kt_ckpt.specs.declared.acts.LineAct.{LineAct as Listed};
+    ghost use Rattle.kt_ckpt.specs.declared.acts.LogAct.{LogAct as Listed};
 
     ghost Value = { List Listed };
 
-    ghost use Rattle.kt_ckpt.specs.inner.Chain.{IsChain, in_blocks};
+    ghost use Rattle.kt_ckpt.specs.auxiliary.Chain.{IsChain, in_blocks};
 
     ghost view = { λ a. take a.len (in_blocks a.last) };
 
@@ -67,7 +68,7 @@ impl fmt::Debug for Acts {
     }
 }
 
-fn show_newest_first<W: fmt::Write>(f: &mut fmt::Formatter<W>, acts: &[LineAct]) -> fmt::Result {
+fn show_newest_first<W: fmt::Write>(f: &mut fmt::Formatter<W>, acts: &[LogAct]) -> fmt::Result {
     for act in acts.iter().rev() {
         write!(f, ", {act:?}")?;
     }
@@ -107,7 +108,7 @@ impl Link {
 }
 
 /// The block's own acts, where it ends so many.
-fn own(len: u64, block: &Block) -> &[LineAct]
+fn own(len: u64, block: &Block) -> &[LogAct]
     requires older { length block.now.older ≤ len }
     requires held { len ≤ length block.now.older + length block.now.acts.items }
     ensures { result.now ≡ take (len - length block.now.older) block.now.acts.items }
@@ -157,7 +158,7 @@ impl Acts {
     }
 
     /// These acts and more behind them.
-    pub fn with(self, alloc: Global, more: Vec<LineAct>) -> Result<Acts, AllocError>
+    pub fn with(self, alloc: Global, more: Vec<LogAct>) -> Result<Acts, AllocError>
         requires { length self + length more.items < 2 ^ 64 }
         ensures { IfOk result (λ a. a ≡ self ++ more.items) }
     {
@@ -191,7 +192,7 @@ impl Acts {
     }
 
     /// The acts, oldest first. It goes through all of them.
-    pub fn listed(&self, alloc: Global) -> Result<Vec<&LineAct>, AllocError>
+    pub fn listed(&self, alloc: Global) -> Result<Vec<&LogAct>, AllocError>
         ensures { IfOk result (λ v. map (λ a. a.now) v.items ≡ self.now) }
     {
         let mut listed = Vec::with_capacity(alloc, self.len as usize)?;
@@ -205,10 +206,7 @@ impl Acts {
     }
 }
 
-fn push_newest_first<'a>(
-    listed: &mut Vec<&'a LineAct>,
-    acts: &'a [LineAct],
-) -> Result<(), AllocError>
+fn push_newest_first<'a>(listed: &mut Vec<&'a LogAct>, acts: &'a [LogAct]) -> Result<(), AllocError>
     ensures { OnOk result (map (λ a. a.now) listed.new.items ≡
         map (λ a. a.now) listed.old.items ++ reverse acts.now) }
 {

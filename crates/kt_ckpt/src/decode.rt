@@ -1,4 +1,5 @@
 //! A checkpoint, read.
+//! Cited by old.rt; kt_sql_tables.
 
 ghost use Rattle.std.specs.Prelude.{◌≡◌, ◌≢◌, All, ℕ, ◌<◌, ◌≤◌, List, ◌∷◌, ◌++◌, IfOk, Ok, Err, length, map, take};
 ghost use Rattle.kt_ckpt.specs.Acts.{IsActOf};
@@ -6,18 +7,18 @@ ghost use Rattle.kt_ckpt.specs.Checkpoint.{Checkpoint, IsCheckpoint, HasCounts, 
 ghost use Rattle.kt_ckpt.specs.Checkpoint.{spelling, read, magic_at, version_at};
 ghost use Rattle.kt_ckpt.specs.Checkpoint.{label_at, peer_at, peers_at, state_at, checkpoint_of, checkpoint_at};
 ghost use Rattle.kt_ckpt.specs.Limits.{magic, version};
-ghost use Rattle.kt_ckpt.specs.Marks.{fields_of, marks_at};
+ghost use Rattle.kt_ckpt.specs.Header.{fields_of, header_at};
 ghost use Rattle.kt_ckpt.specs.Node.{IsNode, node_behind, node_at};
 ghost use Rattle.kt_ckpt.specs.Reading.{Gives};
 
 use crate::act_bytes::acts_at;
-use crate::acts::LineAct;
+use crate::acts::LogAct;
 use crate::chain::Acts;
 use crate::ckpt::Ckpt;
 use crate::error::CkptError;
+use crate::header::CkptHeader;
 use crate::limits::{MAGIC, MAX_PEERS, SHARD, VERSION, WORKER};
 use crate::list::{Listed, list_at};
-use crate::marks::Marks;
 use crate::numbers::{byte_at, byte_within, bytes_at, u64_at};
 use crate::shard::shard_at;
 use crate::state::State;
@@ -54,43 +55,43 @@ impl Ckpt {
     }
 }
 
-impl Marks {
-    ghost use Rattle.kt_ckpt.specs.Marks.{marks_of};
+impl CkptHeader {
+    ghost use Rattle.kt_ckpt.specs.Header.{header_of};
 
-    /// The marks of the checkpoint that the bytes spell. What stands behind them is not read: whether all bytes spell a
-    /// checkpoint only `Ckpt::decode` tells. The faults are those of the marks, the first from the left, as there.
-    pub fn decode(alloc: Global, bytes: &[u8]) -> Result<Marks, CkptError>
+    /// The header of the checkpoint that the bytes spell. What stands behind it is not read: whether all bytes spell a
+    /// checkpoint only `Ckpt::decode` tells. The faults are those of the header, the first from the left, as there.
+    pub fn decode(alloc: Global, bytes: &[u8]) -> Result<CkptHeader, CkptError>
         ensures of_checkpoint { (c : Checkpoint) → IsCheckpoint c → bytes.now ≡ spelling c
-            → Gives (λ m. m) result (Ok (marks_of c)) }
+            → Gives (λ m. m) result (Ok (header_of c)) }
         // Which fault it is.
-        ensures exact { Gives (λ m. m) result (marks_at bytes.now) }
+        ensures exact { Gives (λ m. m) result (header_at bytes.now) }
     {
-        decode_marks(alloc, bytes)
+        decode_header(alloc, bytes)
     }
 }
 
-#[tactic(auto, unfolding(crate::specs::Marks::marks_at))]
-fn decode_marks(alloc: Global, bytes: &[u8]) -> Result<Marks, CkptError>
-    ensures { Gives (λ m. m) result (marks_at bytes.now) }
+#[tactic(auto, unfolding(crate::specs::Header::header_at))]
+fn decode_header(alloc: Global, bytes: &[u8]) -> Result<CkptHeader, CkptError>
+    ensures { Gives (λ m. m) result (header_at bytes.now) }
 {
     let behind_magic = magic_at(bytes)?;
     let behind_version = version_at(behind_magic)?;
     let (node, rest) = node_at(behind_version)?;
     let (line_len, rest) = u64_at(rest)?;
     let (peers, _) = peers_at(alloc, rest)?;
-    Ok(marks_of(alloc, node, line_len, &peers)?)
+    Ok(header_of(alloc, node, line_len, &peers)?)
 }
 
-/// The marks with these labels sent to the neighbours, and received from them.
-fn marks_of(
+/// The header with these labels sent to the neighbours, and received from them.
+fn header_of(
     alloc: Global,
     node: NodeId,
     line_len: u64,
     peers: &[(Label, Label)],
-) -> Result<Marks, AllocError>
+) -> Result<CkptHeader, AllocError>
     ensures { IfOk result (λ m. m ≡ fields_of node line_len (map (λ p. p.0) peers.now) (map (λ p. p.1) peers.now)) }
 {
-    Marks::new(
+    CkptHeader::new(
         alloc,
         node,
         line_len,
@@ -134,7 +135,7 @@ pub(crate) fn ckpt_of(
     line_len: u64,
     peers: &[(Label, Label)],
     state: State,
-    acts: Vec<LineAct>,
+    acts: Vec<LogAct>,
 ) -> Result<Ckpt, AllocError>
     requires node { IsNode node }
     requires few { (1 ≤ length peers.now) × (length peers.now ≤ MAX_PEERS) }

@@ -1,4 +1,5 @@
 //! A checkpoint, written.
+//! Cited by act_bytes.rt, old.rt; kt_sql_tables.
 
 ghost use Rattle.std.specs.Prelude.{◌≡◌, ◌++◌, ◌∷◌, [], All, IfOk, OnOk, Ok, length};
 ghost use Rattle.std.specs.List.{flat_map, zip};
@@ -8,7 +9,7 @@ ghost use Rattle.kt_ckpt.specs.Checkpoint.{IsState, made_of, state_bytes};
 ghost use Rattle.kt_ckpt.specs.Limits.{magic, version};
 ghost use Rattle.kt_ckpt.specs.Node.{node_bytes};
 
-use crate::act_bytes::push_line;
+use crate::act_bytes::push_log;
 use crate::chain::Acts;
 use crate::ckpt::Ckpt;
 use crate::limits::{MAGIC, SHARD, VERSION, WORKER};
@@ -61,7 +62,7 @@ fn encode_parts(
     push_u64(&mut out, line_len)?;
     push_peers(&mut out, sent, received)?;
     push_state(&mut out, state)?;
-    push_line(alloc, &mut out, acts)?;
+    push_log(alloc, &mut out, acts)?;
     Ok(out)
 }
 

@@ -1,4 +1,5 @@
 //! What a shard keeps for its workers, in bytes: a list by rising worker.
+//! Cited by shard.rt, state.rt; whoever calls the trait `Entry`.
 
 ghost use Rattle.std.specs.Prelude.{◌≡◌, ◌++◌, ℕ, List, All, IfOk, OnOk};
 ghost use Rattle.std.specs.List.{flat_map};
@@ -8,7 +9,7 @@ ghost use Rattle.kt_ckpt.specs.State.{entry_bytes, entries_bytes, entries_at};
 use crate::error::CkptError;
 use crate::numbers::{byte_within, push_u64, u64_at};
 use crate::op::{answer_at, op_at, push_answer, push_op};
-use kt_shard::{Kept, Request};
+use kt_shard::{CachedReply, Request};
 use kt_tuple::MAX_WORKERS;
 use std::alloc::{AllocError, Global};
 
@@ -61,28 +62,28 @@ impl Entry for Request {
     }
 }
 
-impl Entry for Kept {
+impl Entry for CachedReply {
     ghost use Rattle.kt_ckpt.specs.State as states;
 
-    ghost spelled = { states.kept_bytes };
+    ghost spelled = { states.cached_bytes };
 
-    ghost is_spelled = { states.IsKept };
+    ghost is_spelled = { states.IsCached };
 
-    ghost reader = { states.kept_at };
+    ghost reader = { states.cached_at };
 
     fn push_to(&self, out: &mut Vec<u8>) -> Result<(), AllocError> {
         self.request.push_to(out)?;
         push_answer(out, &self.answer)
     }
 
-    #[tactic(auto, unfolding(crate::specs::State::kept_at))]
-    fn read(alloc: Global, bytes: &[u8]) -> Result<(Kept, &[u8]), CkptError> {
+    #[tactic(auto, unfolding(crate::specs::State::cached_at))]
+    fn read(alloc: Global, bytes: &[u8]) -> Result<(CachedReply, &[u8]), CkptError> {
         let (request, rest) = Request::read(alloc, bytes)?;
         let (answer, rest) = answer_at(alloc, rest)?;
-        Ok((Kept { request, answer }, rest))
+        Ok((CachedReply { request, answer }, rest))
     }
 
-    fn copy_entry(&self, alloc: Global) -> Result<Kept, AllocError> {
+    fn copy_entry(&self, alloc: Global) -> Result<CachedReply, AllocError> {
         self.copy(alloc)
     }
 }

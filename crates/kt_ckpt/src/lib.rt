@@ -1,11 +1,11 @@
 //! A checkpoint of a node as plain fields, and its one spelling (canonical encoding) in bytes; and a history with the
-//! acts of each line at hand for its next checkpoint.
+//! acts of each log at hand for its next checkpoint.
 //!
 //! - Contract: each checkpoint has one spelling, which is read as this checkpoint (`Ckpt::encode`, clauses `value` and
 //!   `read_back`). Other bytes are refused with their first fault from the left, want of memory aside (`Ckpt::decode`,
-//!   clause `exact`). What a history gives as the acts of a line is what its notes say (`Past::acts`, clause `acts`).
+//!   clause `exact`). What a history gives as the acts of a log is what its notes say (`Past::acts`, clause `acts`).
 //! - Stands on: kt_tuple, kt_script, kt_space, kt_link, kt_shard, kt_history; of the kit: thiserror
-//! - Used by: kt_store, kt_tables, kt_sql, kt_node, kt_world, kt_resume, kt_refinement, kt_core, kt_stage
+//! - Used by: kt_store, kt_sql_tables, kt_sql, kt_state, kt_node, kt_model, kt_resume, kt_refinement, kt_core, kt_stage
 //! - Begin in: `ckpt.rt`, `state.rt` and `acts.rt` for the fields, then `decode.rt` and `encode.rt`, field by field.
 //!   `limits.rt` has the codes of the format, `old.rt` reads and writes format 1. `chain.rt` has how acts are shared,
 //!   `past.rt` where they come from.
@@ -19,9 +19,9 @@ mod decode;
 mod encode;
 mod entry;
 mod error;
+mod header;
 mod limits;
 mod list;
-mod marks;
 mod numbers;
 mod old;
 mod old_limits;
@@ -35,11 +35,11 @@ mod tuple;
 mod value;
 mod worker;
 
-pub use acts::{LineAct, are_acts_of};
+pub use acts::{LogAct, are_acts_of};
 pub use chain::Acts;
 pub use ckpt::Ckpt;
 pub use error::CkptError;
+pub use header::CkptHeader;
 pub use limits::MAX_PEERS;
-pub use marks::Marks;
 pub use past::Past;
 pub use state::{ShardState, State, WorkerState};

@@ -1,5 +1,6 @@
 //! The codes of the format, each once, and the limit of neighbours. The other limits are those of tuples, scripts and
 //! nodes.
+//! Cited by act_bytes.rt, decode.rt, encode.rt, old.rt, old_parts.rt, op.rt, value.rt; kt_state.
 
 use kt_tuple::MAX_WORKERS;
 
@@ -57,7 +58,7 @@ pub(crate) const REPEAT: u8 = 2;
 pub(crate) const HEARD: u8 = 3;
 /// The code of a service: the answer follows.
 pub(crate) const SERVED: u8 = 4;
-/// The code of a kept answer that a shard sent again, which follows.
+/// The code of a cached answer that a shard sent again, which follows.
 pub(crate) const AGAIN: u8 = 5;
 /// The code of an answer that a worker accepted, which follows.
 pub(crate) const ACCEPTED: u8 = 6;

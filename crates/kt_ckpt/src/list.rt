@@ -1,4 +1,5 @@
 //! Lists of a checkpoint, one thing behind the other.
+//! Cited by decode.rt, old.rt, shard.rt, tuple.rt, worker.rt.
 
 ghost use Rattle.std.specs.Prelude.{◌≡◌, IfOk, length};
 ghost use Rattle.kt_ckpt.specs.Reading.{Gives, Reader, list_at};

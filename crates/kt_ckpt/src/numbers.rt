@@ -1,4 +1,6 @@
 //! Numbers in bytes, the highest byte first, and truths in one byte.
+//! Cited by act_bytes.rt, decode.rt, encode.rt, entry.rt, old.rt, old_parts.rt, old_state.rt, op.rt, shard.rt,
+//!   tuple.rt, value.rt, worker.rt.
 
 ghost use Rattle.std.specs.Prelude.{◌≡◌, ◌≤◌, ◌++◌, IfOk, OnOk};
 ghost use Rattle.std.specs.Int.{w16, w32, w64, to_be_bytes};

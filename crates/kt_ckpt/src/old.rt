@@ -1,5 +1,7 @@
 //! A checkpoint in format 1, read and written. It has no acts: they are handed to who reads it, and are not among what
-//! is written.
+//! is written. kt_sql_tables writes this format, to compare the rows of a file of version 1 with it. Reading it is
+//! called by tests alone. Cited by kt_sql_tables.
+//! Cited by kt_sql_tables.
 
 ghost use Rattle.std.specs.Prelude.{◌≡◌, ◌≢◌, ◌≤◌, ◌<◌, ◌++◌, ◌∷◌, [], ℕ, List, All, IfOk, IfSome, IsTrue};
 ghost use Rattle.std.specs.Prelude.{◌==◌, ◌&&◌, MatchOption, OnOk, Ok, Err, false, length};
@@ -8,12 +10,12 @@ ghost use Rattle.kt_ckpt.specs.Acts.{IsActOf, is_act_of};
 ghost use Rattle.kt_ckpt.specs.Checkpoint.{Checkpoint, HasCounts, HasShape, made_of};
 ghost use Rattle.kt_ckpt.specs.Limits.{magic};
 ghost use Rattle.kt_ckpt.specs.Node.{IsNode};
-ghost use Rattle.kt_ckpt.specs.Old.{IsOldCheckpoint, line_at, old_checkpoint_at, old_node_at, old_node_behind};
+ghost use Rattle.kt_ckpt.specs.Old.{IsOldCheckpoint, log_at, old_checkpoint_at, old_node_at, old_node_behind};
 ghost use Rattle.kt_ckpt.specs.Old.{old_peers_at, old_version_at, read_old, spelling_old};
 ghost use Rattle.kt_ckpt.specs.OldLimits.{is_old, is_old_node, old_version};
 ghost use Rattle.kt_ckpt.specs.Reading.{Gives};
 
-use crate::acts::{LineAct, are_acts_of};
+use crate::acts::{LogAct, are_acts_of};
 use crate::chain::Acts;
 use crate::ckpt::Ckpt;
 use crate::decode::{ckpt_of, magic_at};
@@ -32,10 +34,10 @@ use std::alloc::{AllocError, Global};
 impl Ckpt {
     ghost use Rattle.kt_ckpt.specs.declared.error.CkptError.TheVariants.{Cut, Extra, Magic, Version};
 
-    /// The checkpoint that the bytes spell in format 1, all of the bytes, with these acts of its line; else the first
-    /// fault from the left. It is `Field` at the length of the line where that is not the number of the acts, or one of
-    /// them can't stand in the node's line. Want of memory aside it is exact, as `decode` is.
-    pub fn decode_old(alloc: Global, bytes: &[u8], acts: Vec<LineAct>) -> Result<Ckpt, CkptError>
+    /// The checkpoint that the bytes spell in format 1, all of the bytes, with these acts of its log; else the first
+    /// fault from the left. It is `Field` at the length of the log where that is not the number of the acts, or one of
+    /// them can't stand in the node's log. Want of memory aside it is exact, as `decode` is.
+    pub fn decode_old(alloc: Global, bytes: &[u8], acts: Vec<LogAct>) -> Result<Ckpt, CkptError>
         // What is read is spelled so, and has these acts.
         ensures found { IfOk result (λ c. IsOldCheckpoint c × (c.acts ≡ acts.items) × (bytes.now ≡ spelling_old c)) }
         // What is spelled so is read.
@@ -136,7 +138,7 @@ fn push_old_front(out: &mut Vec<u8>) -> Result<(), AllocError>
 // ---- read
 
 #[tactic(auto, unfolding(crate::specs::Old::read_old))]
-fn decode_old(alloc: Global, bytes: &[u8], acts: Vec<LineAct>) -> Result<Ckpt, CkptError>
+fn decode_old(alloc: Global, bytes: &[u8], acts: Vec<LogAct>) -> Result<Ckpt, CkptError>
     ensures { Gives (λ c. c) result (read_old acts.items bytes.now) }
 {
     let (ckpt, rest) = old_checkpoint_at(alloc, bytes, acts)?;
@@ -151,14 +153,14 @@ fn decode_old(alloc: Global, bytes: &[u8], acts: Vec<LineAct>) -> Result<Ckpt, C
 fn old_checkpoint_at(
     alloc: Global,
     bytes: &[u8],
-    acts: Vec<LineAct>,
+    acts: Vec<LogAct>,
 ) -> Result<(Ckpt, &[u8]), CkptError>
     ensures { Gives (λ x. (x.0, x.1.now)) result (old_checkpoint_at acts.items bytes.now) }
 {
     let behind_magic = magic_at(bytes)?;
     let behind_version = old_version_at(behind_magic)?;
     let (node, rest) = old_node_at(behind_version)?;
-    let (line_len, rest) = line_at(&acts, node, rest)?;
+    let (line_len, rest) = log_at(&acts, node, rest)?;
     let (peers, rest) = old_peers_at(alloc, rest)?;
     let (state, rest) = old_state_at(alloc, node, rest)?;
     let ckpt = ckpt_of(alloc, node, line_len, &peers, state, acts)?;
@@ -204,8 +206,8 @@ fn old_node_behind(kind: u8, bytes: &[u8]) -> Result<(NodeId, &[u8]), CkptError>
     }
 }
 
-/// Whether the acts are as many as the line is long, and each may stand in the node's line.
-fn are_of_line(acts: &[LineAct], node: NodeId, line_len: u64) -> bool
+/// Whether the acts are as many as the log is long, and each may stand in the node's log.
+fn are_of_log(acts: &[LogAct], node: NodeId, line_len: u64) -> bool
     ensures value { result ≡ (length acts.now == line_len && list_all (is_act_of node) acts.now) }
     ensures long { IsTrue result → length acts.now ≡ line_len }
     ensures shape { IsTrue result → All (IsActOf node) acts.now }
@@ -213,19 +215,15 @@ fn are_of_line(acts: &[LineAct], node: NodeId, line_len: u64) -> bool
     acts.len() as u64 == line_len && are_acts_of(node, acts)
 }
 
-/// The length of the node's line, by which the acts are judged.
-#[tactic(auto, unfolding(crate::specs::Old::line_at))]
-fn line_at<'a>(
-    acts: &[LineAct],
-    node: NodeId,
-    bytes: &'a [u8],
-) -> Result<(u64, &'a [u8]), CkptError>
-    ensures value { Gives (λ x. (x.0, x.1.now)) result (line_at acts.now node bytes.now) }
+/// The length of the node's log, by which the acts are judged.
+#[tactic(auto, unfolding(crate::specs::Old::log_at))]
+fn log_at<'a>(acts: &[LogAct], node: NodeId, bytes: &'a [u8]) -> Result<(u64, &'a [u8]), CkptError>
+    ensures value { Gives (λ x. (x.0, x.1.now)) result (log_at acts.now node bytes.now) }
     ensures long { IfOk result (λ x. length acts.now ≡ x.0) }
     ensures shape { IfOk result (λ x. All (IsActOf node) acts.now) }
 {
     let (line_len, rest) = u64_at(bytes)?;
-    if are_of_line(acts, node, line_len) {
+    if are_of_log(acts, node, line_len) {
         Ok((line_len, rest))
     } else {
         Err(CkptError::Field)

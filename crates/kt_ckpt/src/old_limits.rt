@@ -1,4 +1,5 @@
 //! What format 1 has less of than the format that is written now. It has the same codes, but none for a bool.
+//! Cited by old.rt, old_parts.rt, old_state.rt.
 
 /// The version of its checkpoints.
 pub(crate) const OLD_VERSION: u8 = 1;

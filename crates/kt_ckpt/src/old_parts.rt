@@ -1,5 +1,6 @@
 //! Values, tuples and operations in format 1. They are spelled as they are now, but it can hold fewer; each field is
 //! judged by that as it is read.
+//! Cited by old_state.rt; whoever calls the trait `Old`.
 
 ghost use Rattle.std.specs.Prelude.{◌≡◌, ◌≤◌, Bool, IfOk, length};
 ghost use Rattle.std.specs.List.{list_all};

@@ -1,4 +1,5 @@
 //! What a node held, in format 1.
+//! Cited by old.rt; whoever calls the trait `Old`.
 
 ghost use Rattle.std.specs.Prelude.{◌≡◌, ◌<◌, ◌≤◌, ◌^◌, IfOk, length};
 ghost use Rattle.std.specs.List.{list_all};
@@ -19,7 +20,7 @@ use crate::old_parts::{
 use crate::state::{ShardState, State, WorkerState};
 use crate::worker::pc_at;
 use kt_script::MAX_VARIABLES;
-use kt_shard::{Kept, Request};
+use kt_shard::{CachedReply, Request};
 use kt_tuple::{NodeId, Op, Tuple, Value};
 use std::alloc::Global;
 
@@ -98,19 +99,19 @@ impl Old for Request {
     }
 }
 
-impl Old for Kept {
+impl Old for CachedReply {
     ghost use Rattle.kt_ckpt.specs.OldLimits as limits;
     ghost use Rattle.kt_ckpt.specs.OldState as states;
 
-    ghost old_reader = { states.old_kept_at };
+    ghost old_reader = { states.old_cached_at };
 
-    ghost holds = { limits.is_old_kept };
+    ghost holds = { limits.is_old_cached };
 
-    #[tactic(auto, unfolding(crate::specs::OldState::old_kept_at))]
-    fn read_old(alloc: Global, bytes: &[u8]) -> Result<(Kept, &[u8]), CkptError> {
+    #[tactic(auto, unfolding(crate::specs::OldState::old_cached_at))]
+    fn read_old(alloc: Global, bytes: &[u8]) -> Result<(CachedReply, &[u8]), CkptError> {
         let (request, rest) = Request::read_old(alloc, bytes)?;
         let (answer, rest) = old_answer_at(alloc, rest)?;
-        Ok((Kept { request, answer }, rest))
+        Ok((CachedReply { request, answer }, rest))
     }
 
     fn is_old(&self) -> bool {
@@ -168,8 +169,8 @@ fn old_shard_at(alloc: Global, bytes: &[u8]) -> Result<(ShardState, &[u8]), Ckpt
 {
     let (bag, rest) = old_bag_at(alloc, bytes)?;
     let (waiting, rest) = old_entries_at(alloc, rest)?;
-    let (kept, rest) = old_entries_at(alloc, rest)?;
-    Ok((ShardState::new(bag, waiting, kept), rest))
+    let (cached, rest) = old_entries_at(alloc, rest)?;
+    Ok((ShardState::new(bag, waiting, cached), rest))
 }
 
 #[tactic(auto, unfolding(crate::specs::OldState::old_bag_at))]
@@ -184,7 +185,7 @@ fn old_bag_at(alloc: Global, bytes: &[u8]) -> Result<(Vec<Tuple>, &[u8]), CkptEr
 fn is_old_shard(shard: &ShardState) -> bool
     ensures { result ≡ is_old_shard shard.now }
 {
-    are_old(shard.bag()) && are_old_entries(shard.waiting()) && are_old_entries(shard.kept())
+    are_old(shard.bag()) && are_old_entries(shard.waiting()) && are_old_entries(shard.cached())
 }
 
 // ---- a state

@@ -1,4 +1,5 @@
 //! Operations and answers in bytes.
+//! Cited by act_bytes.rt, entry.rt, worker.rt.
 
 ghost use Rattle.std.specs.Prelude.{◌≡◌, ◌++◌, OnOk};
 ghost use Rattle.kt_ckpt.specs.Reading.{Gives};

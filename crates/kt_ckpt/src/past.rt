@@ -1,4 +1,5 @@
 //! The history, with the acts of each node at hand for its next checkpoint.
+//! Cited by kt_core, kt_node.
 
 ghost use Rattle.std.specs.Prelude.{◌≡◌, ◌⊎◌, ◌+◌, ◌<◌, ◌≤◌, ◌^◌, ◌∷◌, ◌++◌, [], All, IfErr, IfOk, IfSome, OnOk, true};
 ghost use Rattle.std.specs.Prelude.{drop, length, map, take};
@@ -6,21 +7,21 @@ ghost use Rattle.kt_tuple.specs.declared.node.NodeId.{NodeId as Name};
 ghost use Rattle.kt_history.specs.declared.note.Note.TheVariants as notes;
 ghost use Rattle.kt_history.specs.Chronicle.{node_of, room_of};
 ghost use Rattle.kt_history.specs.Closed.{acts_at};
-ghost use Rattle.kt_history.specs.Line.{line};
+ghost use Rattle.kt_history.specs.Log.{log};
 ghost use Rattle.kt_history.specs.WellFormed.{MayFollow};
 ghost use Rattle.std.specs.List.{list_all};
 ghost use Rattle.kt_ckpt.specs.Acts.{IsActOf, is_act_of};
-ghost use Rattle.kt_ckpt.specs.LineActs.{fitting, line_act, line_acts, placed};
-ghost use Rattle.kt_ckpt.specs.inner.Gathered.{IsGathered, IsLeft, IsPut, fits_at, row};
+ghost use Rattle.kt_ckpt.specs.LogActs.{fitting, log_act, log_acts, placed};
+ghost use Rattle.kt_ckpt.specs.auxiliary.Gathered.{IsGathered, IsLeft, IsPut, fits_at, row};
 
-use crate::acts::{LineAct, may_stand};
+use crate::acts::{LogAct, may_stand};
 use crate::chain::Acts;
 use kt_history::{Act, History, Note};
 use kt_tuple::NodeId;
 use std::alloc::{AllocError, Global};
 use std::marker::Model;
 
-/// What happened: a history. Beside it stand, of each node, first acts of its line as a checkpoint holds them. They are
+/// What happened: a history. Beside it stand, of each node, first acts of its log as a checkpoint holds them. They are
 /// gathered where one is asked for, so a node that takes none pays nothing. They are shared with its checkpoints, so
 /// that each act is made once and not again for each checkpoint.
 #[derive(Debug, Drop)]
@@ -35,14 +36,14 @@ impl Model for Past {
 
     ghost Value = { Chronicle };
 
-    ghost use Rattle.kt_ckpt.specs.inner.Gathered.{IsPast};
+    ghost use Rattle.kt_ckpt.specs.auxiliary.Gathered.{IsPast};
 
     ghost view = { λ p. p.history };
 
     ghost invariant = { λ p. IsPast p.history.notes p.gathered.items };
 }
 
-/// The act of this number by its node and its place in that node's line; none where the number names no act.
+/// The act of this number by its node and its place in that node's log; none where the number names no act.
 fn placed(history: &History, number: u64) -> Option<(NodeId, u64)>
     ensures { result ≡ placed history.now.notes number }
 {
@@ -53,10 +54,10 @@ fn placed(history: &History, number: u64) -> Option<(NodeId, u64)>
 
 /// The act in the form that a checkpoint holds: what it heard is named by its node and place, which last longer than a
 /// number of this history.
-fn line_act(alloc: Global, history: &History, act: &Act) -> Result<LineAct, AllocError>
-    ensures { IfOk result (λ a. a ≡ line_act history.now.notes act.now) }
+fn log_act(alloc: Global, history: &History, act: &Act) -> Result<LogAct, AllocError>
+    ensures { IfOk result (λ a. a ≡ log_act history.now.notes act.now) }
 {
-    Ok(LineAct {
+    Ok(LogAct {
         by: placed(history, act.by),
         worker: act.worker,
         number: act.number,
@@ -66,19 +67,19 @@ fn line_act(alloc: Global, history: &History, act: &Act) -> Result<LineAct, Allo
 }
 
 /// The acts of these numbers.
-fn acts_of(alloc: Global, history: &History, numbers: &[u64]) -> Result<Vec<LineAct>, AllocError>
-    ensures { IfOk result (λ v. v.items ≡ map (line_act history.now.notes) (acts_at history.now.notes numbers.now)) }
+fn acts_of(alloc: Global, history: &History, numbers: &[u64]) -> Result<Vec<LogAct>, AllocError>
+    ensures { IfOk result (λ v. v.items ≡ map (log_act history.now.notes) (acts_at history.now.notes numbers.now)) }
 {
     let mut acts = Vec::with_capacity(alloc, numbers.len())?;
     for number in numbers {
         if let Some(act) = history.act(*number) {
-            acts.push(line_act(alloc, history, act)?)?;
+            acts.push(log_act(alloc, history, act)?)?;
         }
     }
     Ok(acts)
 }
 
-/// Whether the act of this number, if it names one, may stand in the line of the node.
+/// Whether the act of this number, if it names one, may stand in the log of the node.
 fn is_fit(history: &History, node: NodeId, number: u64) -> bool
     ensures { result ≡ fits_at history.now.notes node number }
 {
@@ -95,27 +96,27 @@ fn are_fit(history: &History, node: NodeId, numbers: &[u64]) -> bool
     numbers.iter().all(|number| is_fit(history, node, *number))
 }
 
-/// Whether each act of the node's line behind the first so many may stand in it.
+/// Whether each act of the node's log behind the first so many may stand in it.
 fn are_fit_behind(history: &History, node: NodeId, first: u64) -> bool
-    requires { first ≤ length (line history.now.notes node) }
-    ensures { result ≡ list_all (is_act_of node) (drop first (line_acts history.now.notes node)) }
+    requires { first ≤ length (log history.now.notes node) }
+    ensures { result ≡ list_all (is_act_of node) (drop first (log_acts history.now.notes node)) }
 {
     are_fit(history, node, &history.line(node)[first as usize..])
 }
 
-/// The acts of the node's line behind the first so many, oldest first.
+/// The acts of the node's log behind the first so many, oldest first.
 fn acts_behind(
     alloc: Global,
     history: &History,
     node: NodeId,
     first: u64,
-) -> Result<Vec<LineAct>, AllocError>
-    requires { first ≤ length (line history.now.notes node) }
-    ensures acts { IfOk result (λ v. v.items ≡ drop first (line_acts history.now.notes node)) }
+) -> Result<Vec<LogAct>, AllocError>
+    requires { first ≤ length (log history.now.notes node) }
+    ensures acts { IfOk result (λ v. v.items ≡ drop first (log_acts history.now.notes node)) }
     ensures few { IfOk result (λ v. first + length v.items < 2 ^ 64) }
 {
-    let line = history.line(node);
-    let acts = acts_of(alloc, history, &line[first as usize..])?;
+    let log = history.line(node);
+    let acts = acts_of(alloc, history, &log[first as usize..])?;
     Ok(acts)
 }
 
@@ -206,7 +207,7 @@ impl Past {
         self.history.add(note);
     }
 
-    /// Gathers the acts of the node's line, so that `acts` has them at hand. It costs what came since the last time,
+    /// Gathers the acts of the node's log, so that `acts` has them at hand. It costs what came since the last time,
     /// and shows nowhere else. Where memory is wanting nothing is gathered.
     pub fn gather(&mut self, alloc: Global, node: NodeId) -> Result<(), AllocError>
         ensures { self.new ≡ self.old }
@@ -217,13 +218,13 @@ impl Past {
         }
     }
 
-    /// The acts of the node's line, oldest first, as a checkpoint holds them; `None` where one may not stand in it.
+    /// The acts of the node's log, oldest first, as a checkpoint holds them; `None` where one may not stand in it.
     /// That is found out first and takes no memory, so want of memory does not hide it. The acts that are gathered are
     /// shared, so it costs what came since.
     pub fn acts(&self, alloc: Global, node: NodeId) -> Result<Option<Acts>, AllocError>
-        ensures acts { IfOk result (λ found. found ≡ fitting node (line_acts self.now.notes node)) }
+        ensures acts { IfOk result (λ found. found ≡ fitting node (log_acts self.now.notes node)) }
         ensures shape { IfOk result (λ found. IfSome found (All (IsActOf node))) }
-        ensures refused { IfErr result (λ _. list_all (is_act_of node) (line_acts self.now.notes node) ≡ true) }
+        ensures refused { IfErr result (λ _. list_all (is_act_of node) (log_acts self.now.notes node) ≡ true) }
     {
         if !self.are_fit(node) {
             return Ok(None);
@@ -233,9 +234,9 @@ impl Past {
         Ok(Some(older.with(alloc, newer)?))
     }
 
-    /// Whether each act of the node's line may stand in it. Those that are gathered may, and are not looked at.
+    /// Whether each act of the node's log may stand in it. Those that are gathered may, and are not looked at.
     fn are_fit(&self, node: NodeId) -> bool
-        ensures { result ≡ list_all (is_act_of node) (line_acts self.now.notes node) }
+        ensures { result ≡ list_all (is_act_of node) (log_acts self.now.notes node) }
     {
         match self.gathered_of(node) {
             Some(acts) => are_fit_behind(&self.history, node, acts.len()),

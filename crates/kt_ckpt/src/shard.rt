@@ -1,4 +1,5 @@
 //! A shard in bytes.
+//! Cited by decode.rt, encode.rt.
 
 ghost use Rattle.std.specs.Prelude.{◌≡◌, ◌<◌, ◌^◌, ◌++◌, All, IfOk, OnOk, length};
 ghost use Rattle.std.specs.List.{flat_map};
@@ -16,7 +17,7 @@ use crate::tuple::push_tuple;
 use kt_tuple::Tuple;
 use std::alloc::{AllocError, Global};
 
-/// Appends the tuples, the requests that wait, and the kept answers, in this order.
+/// Appends the tuples, the requests that wait, and the cached answers, in this order.
 pub(crate) fn push_shard(out: &mut Vec<u8>, shard: &ShardState) -> Result<(), AllocError>
     requires { IsCountedShard shard.now }
     ensures ok { OnOk result (out.new.items ≡ out.old.items ++ shard_bytes shard.now) }
@@ -24,7 +25,7 @@ pub(crate) fn push_shard(out: &mut Vec<u8>, shard: &ShardState) -> Result<(), Al
 {
     push_bag(out, &shard.bag)?;
     push_entries(out, &shard.waiting)?;
-    push_entries(out, &shard.kept)
+    push_entries(out, &shard.cached)
 }
 
 /// Appends how many tuples there are, in four bytes, and the tuples in order of arrival.
@@ -55,8 +56,8 @@ pub(crate) fn shard_at(alloc: Global, bytes: &[u8]) -> Result<(ShardState, &[u8]
 {
     let (bag, rest) = bag_at(alloc, bytes)?;
     let (waiting, rest) = entries_at(alloc, rest)?;
-    let (kept, rest) = entries_at(alloc, rest)?;
-    Ok((ShardState::new(bag, waiting, kept), rest))
+    let (cached, rest) = entries_at(alloc, rest)?;
+    Ok((ShardState::new(bag, waiting, cached), rest))
 }
 
 #[tactic(auto, unfolding(crate::specs::State::bag_at))]

@@ -1,10 +1,12 @@
 //! What a checkpoint holds of its node.
+//! Cited by ckpt.rt, decode.rt, encode.rt, entry.rt, old.rt, old_state.rt, shard.rt, worker.rt; kt_core, kt_resume,
+//!   kt_state.
 
 ghost use Rattle.std.specs.Prelude.{◌≡◌, IfOk};
 ghost use Rattle.std.specs.Option.{option_copied};
 
 use crate::entry::copy_entries;
-use kt_shard::{Kept, Request};
+use kt_shard::{CachedReply, Request};
 use kt_tuple::{Op, Tuple, Value, copy_tuples, copy_values};
 use std::alloc::{AllocError, Global};
 use std::marker::Model;
@@ -27,13 +29,13 @@ impl Model for WorkerState {
     ghost view = { λ w. worker_of w.pc w.number w.was_none w.asked w.variables.items };
 }
 
-/// What a shard holds. Its requests and kept answers are those of kt_shard, so that what is loaded need not be copied
+/// What a shard holds. Its requests and cached answers are those of kt_shard, so that what is loaded need not be copied
 /// into other types.
 #[derive(Debug, Drop)]
 pub struct ShardState {
     pub(crate) bag: Vec<Tuple>,
     pub(crate) waiting: Vec<(u8, Request)>,
-    pub(crate) kept: Vec<(u8, Kept)>,
+    pub(crate) cached: Vec<(u8, CachedReply)>,
 }
 
 impl Model for ShardState {
@@ -41,7 +43,7 @@ impl Model for ShardState {
 
     ghost Value = { ShardFields };
 
-    ghost view = { λ s. record { bag = s.bag.items; waiting = s.waiting.items; kept = s.kept.items } };
+    ghost view = { λ s. record { bag = s.bag.items; waiting = s.waiting.items; cached = s.cached.items } };
 }
 
 /// What a node holds, by its kind.
@@ -152,10 +154,18 @@ impl WorkerState {
 impl ShardState {
     /// A shard with these tuples, in order of arrival, and for workers, in rising order, the requests that wait
     /// and those that were served last.
-    pub fn new(bag: Vec<Tuple>, waiting: Vec<(u8, Request)>, kept: Vec<(u8, Kept)>) -> ShardState
-        ensures { result ≡ record { bag = bag.items; waiting = waiting.items; kept = kept.items } }
+    pub fn new(
+        bag: Vec<Tuple>,
+        waiting: Vec<(u8, Request)>,
+        cached: Vec<(u8, CachedReply)>,
+    ) -> ShardState
+        ensures { result ≡ record { bag = bag.items; waiting = waiting.items; cached = cached.items } }
     {
-        ShardState { bag, waiting, kept }
+        ShardState {
+            bag,
+            waiting,
+            cached,
+        }
     }
 
     /// The tuples, in order of arrival.
@@ -173,20 +183,24 @@ impl ShardState {
     }
 
     /// The requests that were served last with their answers, by rising worker.
-    pub fn kept(&self) -> &[(u8, Kept)]
-        ensures { result.now ≡ self.now.kept }
+    pub fn cached(&self) -> &[(u8, CachedReply)]
+        ensures { result.now ≡ self.now.cached }
     {
-        &self.kept
+        &self.cached
     }
 
     /// What `new` takes, in that order. Nothing is copied.
-    pub fn into_parts(self) -> (Vec<Tuple>, Vec<(u8, Request)>, Vec<(u8, Kept)>)
+    pub fn into_parts(self) -> (Vec<Tuple>, Vec<(u8, Request)>, Vec<(u8, CachedReply)>)
         ensures bag { result.0.items ≡ self.bag }
         ensures waiting { result.1.items ≡ self.waiting }
-        ensures kept { result.2.items ≡ self.kept }
+        ensures cached { result.2.items ≡ self.cached }
     {
-        let ShardState { bag, waiting, kept } = self;
-        (bag, waiting, kept)
+        let ShardState {
+            bag,
+            waiting,
+            cached,
+        } = self;
+        (bag, waiting, cached)
     }
 
     /// An equal state of a shard, with memory of its own.
@@ -196,7 +210,7 @@ impl ShardState {
         Ok(ShardState {
             bag: copy_tuples(alloc, &self.bag)?,
             waiting: copy_entries(alloc, &self.waiting)?,
-            kept: copy_entries(alloc, &self.kept)?,
+            cached: copy_entries(alloc, &self.cached)?,
         })
     }
 }

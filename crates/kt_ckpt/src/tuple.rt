@@ -1,4 +1,5 @@
 //! Tuples and templates in bytes.
+//! Cited by op.rt, shard.rt, worker.rt; whoever calls the trait `Listed`.
 
 ghost use Rattle.std.specs.Prelude.{◌≡◌, ◌≤◌, ◌++◌, All, length, OnOk, IfOk};
 ghost use Rattle.std.specs.List.{flat_map};

@@ -1,4 +1,5 @@
 //! Values and places in bytes.
+//! Cited by old_parts.rt, tuple.rt.
 
 ghost use Rattle.std.specs.Prelude.{◌≡◌, ◌++◌, OnOk};
 ghost use Rattle.kt_tuple.specs.Valid.{IsValue, IsPlace};

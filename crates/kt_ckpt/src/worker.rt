@@ -1,4 +1,5 @@
 //! A worker in bytes.
+//! Cited by decode.rt, encode.rt, old_state.rt.
 
 ghost use Rattle.std.specs.Prelude.{◌≡◌, ◌≤◌, ◌++◌, All, IfOk, OnOk, IfSome, length};
 ghost use Rattle.kt_tuple.specs.Valid.{IsValue};

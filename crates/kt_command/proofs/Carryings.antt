@@ -1,4 +1,5 @@
 -- How a command ends that carries a file over, told from what its calls answer.
+-- Cited by `carrying::carry_connected`.
 use Rattle.std.proofs.Common.{◌≡◌, ◌≢◌, ℕ, List, Result, Ok, Err, ap, subst, ◌∙◌}
 use Rattle.std.specs.Prelude.{OnOk, OnErr, IfErr}
 use Rattle.kt_store.specs.Content.{Content}

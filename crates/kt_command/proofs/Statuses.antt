@@ -1,4 +1,5 @@
 -- How a command ends, told from what it answers.
+-- Cited by `running::run_in_memory`, `running::run_returning_store`.
 use Rattle.std.proofs.Common.{◌≡◌, ℕ, Result, Ok, Err, refl, ap, subst}
 use Rattle.std.specs.Prelude.{OnOk, IfErr}
 use Rattle.kt_store.specs.Stored.{Stored}

@@ -1,4 +1,5 @@
 -- How a command ends that carries the store in a file over.
+-- Cited by Carryings, carrying.rt, specs/Opened.
 use Rattle.std.specs.Prelude.{◌≡◌, ◌≢◌, ℕ, List, Result, Ok, Err}
 use Rattle.kt_store.specs.Content.{Content}
 use Rattle.kt_store.specs.Stored.{Stored}
@@ -22,7 +23,8 @@ pub data EndsCarrying {C F : Type 0} (carries : C → Content → Result (Unit {
       → WritesReplayedFront starts.Open (memory_value fresh_memory) (memory_value left) before after old new → n ≡ 7
       → EndsCarrying carries connection before after old new n
   refused : (left : Stored) (fault : F) (report : List ℕ) → carries connection left.content (Err fault)
-      → IsReplayedReport starts.Open (memory_value fresh_memory) (memory_value left) before after report → new ≡ old → n ≡ 5
+      → IsReplayedReport starts.Open (memory_value fresh_memory) (memory_value left) before after report → new ≡ old
+      → n ≡ 5
       → EndsCarrying carries connection before after old new n
   stopped : (left : Stored) (fault : ReplayFault)
       → IsReplayFault starts.Open (memory_value fresh_memory) (memory_value left) before after fault

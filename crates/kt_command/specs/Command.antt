@@ -1,4 +1,6 @@
 -- The names of the commands, and the words of a process.
+-- Cited by carries.rt, command.rt, opens.rt, specs/Asking, specs/Carried, specs/Opened, words.rt,
+--   `words::words_behind`; kt_quick, linda_kt.
 use Rattle.std.specs.Prelude.{ℕ, Bool, true, false, if◌then◌else◌, nat_eq, List, Option, None, Some, codes, map, String}
 use Rattle.std.specs.Prelude.{string_bytes, drop}
 use Rattle.std.specs.Borrow.{Bor}

@@ -1,4 +1,5 @@
 -- How a command ends over the store that is asked for.
+-- Cited by request.rt; linda_kt.
 use Rattle.std.specs.Prelude.{◌≡◌, ℕ, Option, None, Some, Result, Ok, Err}
 use Rattle.kt_store.specs.declared.store.CkptStore.{Ghosts}
 use Rattle.kt_scene.specs.Outside.{Reader, Writer}

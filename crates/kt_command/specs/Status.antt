@@ -1,22 +1,25 @@
 -- How a command ends.
+-- Cited by Carryings, Statuses, running.rt, specs/Answers, specs/Carried, specs/Opened, status.rt,
+--   `carrying::carry_connected`; kt_quick.
 use Rattle.std.specs.Prelude.{◌≡◌, ℕ, true}
 use Rattle.kt_store.specs.Content.{empty_content}
 use Rattle.kt_store.specs.Stored.{Stored}
 use Rattle.kt_core.specs.Store.{StoreValue, store_value}
 use Rattle.kt_store.specs.declared.store.CkptStore.{Ghosts}
-use Rattle.kt_world.specs.declared.step.StepError.{StepError}
-use Rattle.kt_world.specs.declared.step.StepError.TheVariants as step
+use Rattle.kt_model.specs.declared.error.StepError.{StepError}
+use Rattle.kt_model.specs.declared.error.StepError.TheVariants as step
 use Rattle.kt_core.specs.declared.world.OpenError.{OpenError}
 use Rattle.kt_core.specs.declared.world.OpenError.TheVariants as opens
 use Rattle.kt_core.specs.declared.resuming.ResumeError.{ResumeError}
 use Rattle.kt_core.specs.declared.resuming.ResumeError.TheVariants as resumes
 use Rattle.kt_core.specs.declared.start.Start.{Start}
-use Rattle.kt_scene.specs.declared.fault.SceneError.{SceneError}
-use Rattle.kt_scene.specs.declared.fault.SceneError.TheVariants as scene
+use Rattle.kt_text.specs.declared.fault.SceneError.{SceneError}
+use Rattle.kt_text.specs.declared.fault.SceneError.TheVariants as scene
 use Rattle.kt_scene.specs.Outside.{Reader, Writer}
 use Rattle.kt_scene.specs.Run.{WritesReplayed, IsReplayFault, LeavesWriter}
 use Rattle.kt_scene.specs.declared.fault.ReplayFault.{ReplayFault}
-use Rattle.kt_scene.specs.declared.fault.ReplayFault.TheVariants.{Scene, Step, Open, Resume, Report, Memory, Read, Write}
+use Rattle.kt_scene.specs.declared.fault.ReplayFault.TheVariants.{Scene, Step, Open, Resume, Report, Memory, Read}
+use Rattle.kt_scene.specs.declared.fault.ReplayFault.TheVariants.{Write}
 use Rattle.kt_stage.specs.declared.running.RunFault.{RunFault}
 use Rattle.kt_stage.specs.declared.running.RunFault.TheVariants as runs
 use Rattle.kt_run.specs.declared.fault.RunTextFault.{RunTextFault}

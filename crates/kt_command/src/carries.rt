@@ -1,4 +1,5 @@
 //! What carries the store in a file over.
+//! Cited by carrying.rt, request.rt; linda_kt.
 ghost use Rattle.std.specs.Prelude.{IfOk, Result};
 ghost use Rattle.kt_store.specs.Content.{Content};
 ghost use Rattle.kt_command.specs.Command.{Text};

@@ -1,11 +1,12 @@
 //! How the store in a file is carried over by the journal that made it.
+//! Cited by request.rt.
 ghost use Rattle.std.specs.Prelude.{◌≡◌};
 ghost use Rattle.kt_command.specs.Carried.{EndsCarried, EndsCarrying};
 
 use crate::carries::Carries;
 use crate::request::refuse_store;
 use crate::status::{DONE, end_replay};
-use kt_scene::{Sink, Source, report_over, write_text};
+use kt_scene::{Sink, Source, report_returning_store, write_text};
 use kt_store::MemStore;
 use std::alloc::Global;
 use std::fmt::Display;
@@ -46,7 +47,7 @@ fn carry_connected<C: Drop, F: Display + Drop, O: Carries<C, F>, R: Read, W: Wri
     ensures told { EndsCarrying O.carries connection reader.old reader.new writer.old writer.new result }
     ensures done_without_a_word { result ≡ DONE → errors.new ≡ errors.old }
 {
-    match report_over(alloc, reader, MemStore::new(alloc)) {
+    match report_returning_store(alloc, reader, MemStore::new(alloc)) {
         Ok((report, store)) => match O::carry(alloc, connection, &store) {
             Ok(()) => end_replay(write_text(writer, &report), errors),
             Err(fault) => refuse_store(&fault, errors),

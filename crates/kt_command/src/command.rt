@@ -1,4 +1,5 @@
 //! The commands, and their names.
+//! Cited by request.rt, running.rt; kt_quick, linda_kt.
 ghost use Rattle.std.specs.Prelude.{◌≡◌};
 ghost use Rattle.kt_command.specs.Command.{command_of};
 
@@ -15,9 +16,9 @@ pub enum Command {
 }
 
 impl Command {
-    /// The command of that name, `replay`, `resume` or `run`. The two flags are those of a run: that it goes on from what
-    /// is stored, and that its journal is asked for in place of its report. The others have none, and whoever reads the
-    /// words refuses them there. None where no command has the name.
+    /// The command of that name, `replay`, `resume` or `run`. The two flags are those of a run: that it goes on from
+    /// what is stored, and that its journal is asked for in place of its report. The others have none, and whoever
+    /// reads the words refuses them there. None where no command has the name.
     pub fn of_name(name: &str, is_resumed: bool, has_journal: bool) -> Option<Command>
         ensures { result ≡ command_of name.now is_resumed has_journal }
     {

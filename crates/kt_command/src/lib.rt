@@ -5,7 +5,7 @@
 //!   else with the status of the fault that stopped it. It does so over a fresh store in memory, or over the very store
 //!   that was opened at the path that is named. A store of the version before is carried over by the journal that made
 //!   it (`carry_over`, clause `told`).
-//! - Stands on: kt_store, kt_world, kt_core, kt_scene, kt_stage, kt_run
+//! - Stands on: kt_text, kt_store, kt_model, kt_core, kt_scene, kt_stage, kt_run
 //! - Used by: linda_kt, kt_quick
 //! - Begin in: `request.rt`, then `running.rt` and `carrying.rt`, and `status.rt` for the exit statuses.
 #![tactic(auto)]
@@ -24,7 +24,7 @@ pub use carrying::carry_over;
 pub use command::Command;
 pub use opens::Opens;
 pub use request::{Request, run_request};
-pub use running::{run_in_memory, run_over};
+pub use running::{run_in_memory, run_returning_store};
 pub use status::{
     COMMAND_LINE, DONE, MEMORY, SCENARIO, STEP, STEP_LIMIT, STORE, STREAM, end_replay, end_run,
 };

@@ -1,4 +1,5 @@
 //! What opens the store of a command.
+//! Cited by request.rt; linda_kt.
 ghost use Rattle.std.specs.Prelude.{Result};
 ghost use Rattle.kt_command.specs.Command.{Text};
 

@@ -1,4 +1,5 @@
 //! What a program is asked to do, and over which store it does so.
+//! Cited by carrying.rt; linda_kt.
 ghost use Rattle.std.specs.Prelude.{◌≡◌};
 ghost use Rattle.kt_command.specs.Asking.{asked};
 ghost use Rattle.kt_command.specs.Opened.{EndsAsked, EndsOpened};
@@ -7,7 +8,7 @@ use crate::carries::Carries;
 use crate::carrying::carry_over;
 use crate::command::Command;
 use crate::opens::Opens;
-use crate::running::{run_in_memory, run_over};
+use crate::running::{run_in_memory, run_returning_store};
 use crate::status::{DONE, STORE};
 use kt_scene::{Sink, Source};
 use kt_store::CkptStore;
@@ -94,7 +95,9 @@ fn run_opened<
 {
     match opened {
         Ok(store) => {
-            let (status, left) = run_over(threads, alloc, command, store, reader, writer, errors);
+            let (status, left) = run_returning_store(
+                threads, alloc, command, store, reader, writer, errors,
+            );
             drop(left);
             status
         }

@@ -1,11 +1,12 @@
 //! A command over a store, from the reader to the writer and the exit status.
+//! Cited by request.rt; kt_quick.
 ghost use Rattle.std.specs.Prelude.{◌≡◌};
 ghost use Rattle.kt_command.specs.Status.{EndsAs, EndsInMemory};
 
 use crate::command::Command;
 use crate::status::{DONE, end_replay, end_run};
-use kt_run::run_text_over;
-use kt_scene::{Sink, Source, replay_over};
+use kt_run::run_text_returning_store;
+use kt_scene::{Sink, Source, replay_returning_store};
 use kt_stage::OpenGate;
 use kt_store::{CkptStore, MemStore, memory_may_go};
 use std::alloc::Global;
@@ -15,7 +16,13 @@ use std::thread::Threads;
 
 /// Does the command over the store and answers the exit status, with the store as it was left. A fault is one line on
 /// `errors`; before any fault but the writer's nothing is written. It may wait for its threads.
-pub fn run_over<T: Threads + Wait + Sync, R: Read, W: Write, E: Write, S: CkptStore + Send + Drop>(
+pub fn run_returning_store<
+    T: Threads + Wait + Sync,
+    R: Read,
+    W: Write,
+    E: Write,
+    S: CkptStore + Send + Drop,
+>(
     threads: &T,
     alloc: Global,
     command: Command,
@@ -30,11 +37,11 @@ pub fn run_over<T: Threads + Wait + Sync, R: Read, W: Write, E: Write, S: CkptSt
 {
     match command {
         Command::Replay(start) => {
-            let (answer, left) = replay_over(alloc, start, reader, writer, store);
+            let (answer, left) = replay_returning_store(alloc, start, reader, writer, store);
             (end_replay(answer, errors), left)
         }
         Command::Run(start, output) => {
-            let (answer, left) = run_text_over(
+            let (answer, left) = run_text_returning_store(
                 threads, alloc, start, reader, writer, store, output, &OpenGate,
             );
             (end_run(answer, errors), left)
@@ -56,7 +63,9 @@ pub fn run_in_memory<T: Threads + Wait + Sync, R: Read, W: Write, E: Write>(
 {
     let store = MemStore::new(alloc);
     memory_may_go();
-    let (status, left) = run_over(threads, alloc, command, store, reader, writer, errors);
+    let (status, left) = run_returning_store(
+        threads, alloc, command, store, reader, writer, errors,
+    );
     drop(left);
     status
 }

@@ -1,4 +1,5 @@
 //! How a command ends: the line that tells of a fault, and the exit status.
+//! Cited by carrying.rt, request.rt, running.rt; kt_quick, linda_kt.
 ghost use Rattle.std.specs.Prelude.{◌≡◌, IsOk};
 ghost use Rattle.kt_command.specs.Answers.{answer_status, run_answer_status};
 ghost use Rattle.kt_command.specs.Status.{open_status, resume_status, run_text_status, status_of, step_status};
@@ -16,8 +17,8 @@ pub const COMMAND_LINE: u8 = 2;
 pub const SCENARIO: u8 = 3;
 /// A step is not enabled.
 pub const STEP: u8 = 4;
-/// The store was not opened, is not fresh, does not fit the scene or refused a call; or a run ended whose seats do not fit its journal, or
-/// where a node has a step left.
+/// The store was not opened, is not fresh, does not fit the scene or refused a call; or a run ended whose seats do not
+/// fit its journal, or where a node has a step left.
 pub const STORE: u8 = 5;
 /// Memory was refused, or a thread could not be started.
 pub const MEMORY: u8 = 6;

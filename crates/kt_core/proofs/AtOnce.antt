@@ -1,47 +1,49 @@
 -- What is made at once is what the plan of the step says.
+-- Cited by `Machine::carry_out_short`, `Machine::make_room_for_short`, `Machine::repeat_at_once`,
+--   `Machine::short_at_once`, `Machine::short_deliver`.
 use Rattle.std.proofs.Common.{◌≡◌, ℕ, ◌≤◌, length, Option, None, Some, Ok, Err, Result, sym, ap, ◌∙◌, subst}
 use Rattle.std.specs.Prelude.{IfOk, IfSome, IsOk, OnErr, option_to_list}
 use Rattle.std.specs.List.{AllByRecursion}
 use Rattle.kt_node.specs.declared.short_plan.ShortPlan.{ShortPlan}
-use Rattle.kt_node.specs.declared.plan.Plan.{Plan}
+use Rattle.kt_state.specs.declared.plan.Plan.{Plan}
 use Rattle.kt_store.specs.Content.{Content, empty_content}
-use Rattle.kt_world.specs.declared.step.Step.{Step}
-use Rattle.kt_world.specs.Effect.{applied, applied_if, step_result}
-use Rattle.kt_world.specs.inner.Ready.{CanApply, IsReady}
-use Rattle.kt_world.specs.Judge.{planned}
-use Rattle.kt_world.specs.State.{State}
-use Rattle.kt_world.specs.Step.{owner}
-use Rattle.kt_world.specs.Told.{told}
+use Rattle.kt_scenario.specs.declared.step.Step.{Step}
+use Rattle.kt_model.specs.Effect.{applied, applied_if, step_result}
+use Rattle.kt_model.specs.auxiliary.Ready.{CanApply, IsReady}
+use Rattle.kt_model.specs.StepPlan.{step_plan}
+use Rattle.kt_model.specs.State.{State}
+use Rattle.kt_scenario.specs.Step.{owner}
+use Rattle.kt_model.specs.StoreReads.{store_reads}
 use Rattle.kt_core.specs.declared.machine.Machine.{Machine}
-use Rattle.kt_core.specs.inner.Machine.{state_of}
-use Rattle.kt_core.proofs.Steps.{is-ok, on-error, planned-can, planned-leads}
+use Rattle.kt_core.specs.auxiliary.Machine.{state_of}
+use Rattle.kt_core.proofs.Steps.{is-ok, on-error, step_plan-can, step_plan-leads}
 
 -- ---- over any step: what is said is its plan
 
 pub can-at-once : (old : Machine) (step : Step) (plan said : Plan) → IsReady (state_of old empty_content)
-    → ((c : Content) → planned (state_of old c) step ≡ Ok plan) → said ≡ plan → CanApply (state_of old empty_content) (owner step) said
+    → ((c : Content) → step_plan (state_of old c) step ≡ Ok plan) → said ≡ plan → CanApply (state_of old empty_content) (owner step) said
 can-at-once old step plan said ready is same =
     let s = state_of old empty_content in
-    let P : Plan → Type 0 = CanApply s (owner step) in subst P (sym same) (planned-can s step (told s step) plan ready (is empty_content))
+    let P : Plan → Type 0 = CanApply s (owner step) in subst P (sym same) (step_plan-can s step (store_reads s step) plan ready (is empty_content))
 
 pub ready-at-once : (old new : Machine) (step : Step) (plan said : Plan) → IsReady (state_of old empty_content)
-    → ((c : Content) → planned (state_of old c) step ≡ Ok plan) → said ≡ plan
+    → ((c : Content) → step_plan (state_of old c) step ≡ Ok plan) → said ≡ plan
     → ((c : Content) → state_of new c ≡ applied (state_of old c) step said) → IsReady (state_of new empty_content)
 ready-at-once old new step plan said ready is same made =
     let s = state_of old empty_content in
     let P : State → Type 0 = IsReady in
-    subst P (sym (made empty_content ∙ ap (applied s step) same)) (planned-leads s step (told s step) plan ready (is empty_content))
+    subst P (sym (made empty_content ∙ ap (applied s step) same)) (step_plan-leads s step (store_reads s step) plan ready (is empty_content))
 
 pub made-at-once : (old new : Machine) (step : Step) (plan said : Plan)
-    → ((c : Content) → planned (state_of old c) step ≡ Ok plan) → said ≡ plan
+    → ((c : Content) → step_plan (state_of old c) step ≡ Ok plan) → said ≡ plan
     → ((c : Content) → state_of new c ≡ applied (state_of old c) step said)
     → (c : Content) → step_result (state_of old c) step ≡ Ok (state_of new c)
 made-at-once old new step plan said is same made c =
     ap (applied_if (state_of old c) step) (is c) ∙ ap (λ (x : State). Ok x) (sym (made c ∙ ap (applied (state_of old c) step) same))
 
 pub enabled-at-once : {X E : Type 0} (r : Result X E) (old : Machine) (step : Step) (plan : Plan)
-    → ((c : Content) → planned (state_of old c) step ≡ Ok plan) → OnErr r ((c : Content) → IsOk (planned (state_of old c) step))
-enabled-at-once r old step plan is = on-error r _ (λ c. is-ok (planned (state_of old c) step) plan (is c))
+    → ((c : Content) → step_plan (state_of old c) step ≡ Ok plan) → OnErr r ((c : Content) → IsOk (step_plan (state_of old c) step))
+enabled-at-once r old step plan is = on-error r _ (λ c. is-ok (step_plan (state_of old c) step) plan (is c))
 
 -- ---- one message, if there is one
 

@@ -1,5 +1,7 @@
 -- What was read of a store fits a scene just where what the store holds does.
-use Rattle.std.proofs.Common.{◌≡◌, ◌⊎◌, ℕ, suc, Bool, true, false, List, [], ◌∷◌, ◌++◌, map, Contains, cond, Option, None, Some, inl, inr, refl, sym, ap, ◌∙◌, subst, arith}
+-- Cited by Resumes.
+use Rattle.std.proofs.Common.{◌≡◌, ◌⊎◌, ℕ, suc, Bool, true, false, List, [], ◌∷◌, ◌++◌, map, Contains, cond, Option, None, Some, inl, inr, refl, sym, ap, ◌∙◌}
+use Rattle.std.proofs.Common.{subst, arith}
 use Rattle.std.specs.Prelude.{All, AllPairs, IfSome, IsTrue, is_some, slice_index_or, length, ◌<◌}
 use Rattle.std.specs.List.{find}
 use Rattle.std.specs.Option.{option_map}
@@ -8,17 +10,17 @@ use Rattle.kt_tuple.specs.Node.{is_before, node_eq, node_eq_decides}
 use Rattle.kt_store.specs.declared.rows.NodeRow.{NodeRow}
 use Rattle.kt_store.specs.declared.rows.Tentative.{Tentative}
 use Rattle.kt_store.specs.Proper.{IsProper}
-use Rattle.kt_store.specs.Content.{Content, nodes_in, opening_row, posted, row_of, row_or, verdict_on}
+use Rattle.kt_store.specs.Content.{Content, nodes_in, opening_row, instance_row, row_of, row_or, verdict_on}
 use Rattle.kt_resume.specs.declared.found.Found.{Found}
 use Rattle.kt_resume.specs.Found.{content_of, row_from}
-use Rattle.kt_world.specs.Cast.{Cast}
-use Rattle.kt_world.specs.Cut.{permanent_by, permanent_of}
-use Rattle.kt_world.specs.Resumed.{AreFit, IsFit, IsHeld}
+use Rattle.kt_scenario.specs.Scene.{SceneModel}
+use Rattle.kt_model.specs.Cut.{permanent_by, permanent_of}
+use Rattle.kt_model.specs.Resumed.{AreFit, IsFit, IsHeld}
 use Rattle.kt_core.specs.Resuming.{IsFirstUnfit}
 use Rattle.kt_resume.specs.Judging.{IsFirstMisfit, IsGood}
-use Rattle.kt_core.specs.inner.Gathering.{found_in, stands_on}
+use Rattle.kt_core.specs.auxiliary.Gathering.{found_in, stands_on}
 use Rattle.kt_history.proofs.Shared.{Contains-cons_cases, Contains-here, Contains-none, Contains-there}
-use Rattle.kt_world.proofs.Shared.{before_one_way, not_before_itself}
+use Rattle.kt_model.proofs.Shared.{before_one_way, not_before_itself}
 use Rattle.kt_core.proofs.Alike.{AreAlike, fit-alike, turned}
 
 -- what was found of all nodes of which the store holds something
@@ -61,7 +63,8 @@ found-row c p = by (find (λ (r : NodeRow). node_eq r.node p) c.nodes) refl wher
       ap (row_or p) (find-found c p c.nodes ∙ ap (option_map (λ (r : NodeRow). row_from (found_in c r.node))) e)
       ∙ ap (λ (q : NodeId). row_from (found_in c q)) (find-node p c.nodes row e))
 
-permanent-by : (d : Content) (p : NodeId) (row : NodeRow) → row_of d p ≡ row → permanent_of d p ≡ permanent_by (verdict_on d row.tentative) row.tentative row.permanent
+permanent-by : (d : Content) (p : NodeId) (row : NodeRow) → row_of d p ≡ row
+    → permanent_of d p ≡ permanent_by (verdict_on d row.tentative) row.tentative row.permanent
 permanent-by d p row e = ap (λ (r : NodeRow). permanent_by (verdict_on d r.tentative) r.tentative r.permanent) e
 
 pub found-alike : (c : Content) → AreAlike c (content_of (all_found c))
@@ -82,24 +85,24 @@ found-settled c p = elim (found-row c p) [ inl e ↦ ap (λ (r : NodeRow). r.ten
 
 -- ---- what fits
 
-begun-posted : (c : Content) (o : Option Tentative) → IsTrue (stands_on c (option_map (λ (t : Tentative). t.instance) o))
-    → IfSome o (λ t. IsTrue (is_some (posted c t.instance)))
-begun-posted c None is = tt
-begun-posted c (Some t) is = is
+begun-instance_row : (c : Content) (o : Option Tentative) → IsTrue (stands_on c (option_map (λ (t : Tentative). t.instance) o))
+    → IfSome o (λ t. IsTrue (is_some (instance_row c t.instance)))
+begun-instance_row c None is = tt
+begun-instance_row c (Some t) is = is
 
-posted-begun : (c : Content) (o : Option Tentative) → IfSome o (λ t. IsTrue (is_some (posted c t.instance)))
+instance_row-begun : (c : Content) (o : Option Tentative) → IfSome o (λ t. IsTrue (is_some (instance_row c t.instance)))
     → IsTrue (stands_on c (option_map (λ (t : Tentative). t.instance) o))
-posted-begun c None is = refl
-posted-begun c (Some t) is = is
+instance_row-begun c None is = refl
+instance_row-begun c (Some t) is = is
 
-pub found-fit : (cast : Cast) (c : Content) (p : NodeId) → IsGood cast (content_of (all_found c)) (found_in c p) → IsFit cast c p
-found-fit cast c p fits = fit-alike cast c (content_of (all_found c)) (found-alike c) p (begun-posted c (row_of c p).tentative fits.1) fits.0
+pub found-fit : (scene : SceneModel) (c : Content) (p : NodeId) → IsGood scene (content_of (all_found c)) (found_in c p) → IsFit scene c p
+found-fit scene c p fits = fit-alike scene c (content_of (all_found c)) (found-alike c) p (begun-instance_row c (row_of c p).tentative fits.1) fits.0
 
-pub fit-found : (cast : Cast) (c : Content) (p : NodeId) → IsFit cast c p → IsGood cast (content_of (all_found c)) (found_in c p)
-fit-found cast c p fit = (
-  fit-alike cast (content_of (all_found c)) c (turned c (content_of (all_found c)) (found-alike c)) p
-      (subst (λ o. IfSome o (λ t. IsTrue (is_some (posted (content_of (all_found c)) t.instance)))) (sym (found-settled c p)) tt) fit,
-  posted-begun c (row_of c p).tentative fit.posted,
+pub fit-found : (scene : SceneModel) (c : Content) (p : NodeId) → IsFit scene c p → IsGood scene (content_of (all_found c)) (found_in c p)
+fit-found scene c p fit = (
+  fit-alike scene (content_of (all_found c)) c (turned c (content_of (all_found c)) (found-alike c)) p
+      (subst (λ o. IfSome o (λ t. IsTrue (is_some (instance_row (content_of (all_found c)) t.instance)))) (sym (found-settled c p)) tt) fit,
+  instance_row-begun c (row_of c p).tentative fit.instance_row,
 )
 
 -- ---- lists of them
@@ -163,20 +166,21 @@ contains-map f (y ∷ xs) x on = elim (Contains-cons_cases y xs x on) [
 pub all-at : {A : Type 0} (P : A → Type 0) (xs : List A) (x : A) → All P xs → Contains xs x → P x
 all-at P xs x all on = subst P on.2 (all on.0 x on.1)
 
-pub all-fit : (cast : Cast) (c : Content) → All (IsGood cast (content_of (all_found c))) (all_found c) → AreFit cast c
-all-fit cast c fits p held =
+pub all-fit : (scene : SceneModel) (c : Content) → All (IsGood scene (content_of (all_found c))) (all_found c) → AreFit scene c
+all-fit scene c fits p held =
     let among : Contains (all_found c) (found_in c p) =
     subst (λ (q : NodeId). Contains (all_found c) (found_in c q)) held.2
     (contains-map (found_in c) (nodes_in c) held.0.node (contains-map (λ (r : NodeRow). r.node) c.nodes held.0 held.1)) in
-    found-fit cast c p (all-at (IsGood cast (content_of (all_found c))) (all_found c) (found_in c p) fits among)
+    found-fit scene c p (all-at (IsGood scene (content_of (all_found c))) (all_found c) (found_in c p) fits among)
 
 -- the first of what was found that does not fit is of the first node that does not
-pub first-unfit : (cast : Cast) (c : Content) → IsProper c → (p : NodeId) → IsFirstMisfit cast (content_of (all_found c)) (all_found c) p → IsFirstUnfit cast c p
-first-unfit cast c proper p m = record {
+pub first-unfit : (scene : SceneModel) (c : Content) → IsProper c → (p : NodeId) → IsFirstMisfit scene (content_of (all_found c)) (all_found c) p
+    → IsFirstUnfit scene c p
+first-unfit scene c proper p m = record {
   held = (row.of, row.among, row.is ∙ own);
-  unfit = λ fit. m.unfit (subst (IsGood cast (content_of (all_found c))) is (fit-found cast c p fit));
+  unfit = λ fit. m.unfit (subst (IsGood scene (content_of (all_found c))) is (fit-found scene c p fit));
   before = λ q held first. elim (append-cases m.before m.first m.later (found_in c q) (subst (λ l. Contains l (found_in c q)) m.split (among q held))) [
-    | inl early ↦ found-fit cast c q (all-at (IsGood cast (content_of (all_found c))) m.before (found_in c q) m.good early)
+    | inl early ↦ found-fit scene c q (all-at (IsGood scene (content_of (all_found c))) m.before (found_in c q) m.good early)
     | inr other ↦ elim other [
       | inl e ↦
           let same : p ≡ q = sym m.node ∙ ap (λ (f : Found). f.node) e in

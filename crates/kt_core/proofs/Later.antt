@@ -1,11 +1,12 @@
 -- One reading after another.
+-- Cited by `World::is_steady`, `resuming::find_all`, `space::permanent_tuples`.
 use Rattle.std.proofs.Common.{◌≡◌, ℕ, zero, suc, ◌+◌, List, [], ◌∷◌, ◌++◌, refl}
 use Rattle.std.proofs.Common.{append-nil, append_assoc, add-one, Ok, Err, sym, ap, ◌∙◌, subst, arith}
 use Rattle.std.specs.Prelude.{Option, map, ◌&&◌}
 use Rattle.std.specs.List.{flat_map, list_all, range_with_len}
-use Rattle.kt_node.specs.declared.node.Node.{Node}
-use Rattle.kt_world.specs.Headline.{is_steady_row}
-use Rattle.kt_core.specs.inner.Rows.{is_steady_code, row_view}
+use Rattle.kt_state.specs.declared.node.Node.{Node}
+use Rattle.kt_model.specs.Headline.{is_steady_row}
+use Rattle.kt_core.specs.auxiliary.Rows.{is_steady_code, row_view}
 use Rattle.std.specs.Prelude.{IsTrue}
 use Rattle.kt_store.specs.declared.error.StoreError.{StoreError}
 use Rattle.kt_store.specs.declared.store.CkptStore.{Ghosts}
@@ -13,7 +14,7 @@ use Rattle.kt_store.specs.Calls.{Counts, NeverFails}
 use Rattle.kt_store.specs.Content.{Content}
 use Rattle.kt_store.specs.declared.error.StoreError.TheVariants.{Memory, Device, Damaged, Full}
 use Rattle.kt_core.specs.Store.{IsCountedBeside}
-use Rattle.kt_core.specs.inner.Calls.{IsGathered}
+use Rattle.kt_core.specs.auxiliary.Calls.{IsGathered}
 
 -- where nothing was counted before, what is counted of the last of several calls is counted of all of them
 counted-later : (T U : Type 0) (before between now : Counts) (e : StoreError) → between ≡ before

@@ -10,6 +10,6 @@ pub mod Worlds
 pub mod Alike
 pub mod Founds
 pub mod Resumes
-pub mod Judged
+pub mod StepPlans
 pub mod Traffics
 pub mod Shared

@@ -1,4 +1,5 @@
 -- What holds anyway holds of either outcome.
+-- Cited by `Machine::make_room_for_short`, `Machine::make_room`.
 use Rattle.std.proofs.Common.{Result, Ok, Err}
 use Rattle.std.specs.Prelude.{OnOk}
 

@@ -1,12 +1,13 @@
 -- What a node of the scene sees lets it act and be saved.
+-- Cited by `Machine::seen`.
 use Rattle.std.proofs.Common.{◌≡◌, sym, subst}
 use Rattle.kt_tuple.specs.declared.node.NodeId.{NodeId}
-use Rattle.kt_node.specs.Ready.{CanAct}
+use Rattle.kt_node.specs.Speaking.{CanAct}
 use Rattle.kt_node.specs.Saving.{CanSaveNode}
 use Rattle.kt_node.specs.View.{View}
-use Rattle.kt_world.specs.inner.Ready.{IsReady}
-use Rattle.kt_world.specs.State.{State, view}
-use Rattle.kt_world.proofs.Shared.{can_act, can_save_node}
+use Rattle.kt_model.specs.auxiliary.Ready.{IsReady}
+use Rattle.kt_model.specs.State.{State, view}
+use Rattle.kt_model.proofs.Shared.{can_act, can_save_node}
 
 pub acts-of : (s : State) (v : View) (p : NodeId) → v ≡ view s p → IsReady s → CanAct v
 acts-of s v p e ready = subst CanAct (sym e) (can_act s ready p)

@@ -1,11 +1,12 @@
 -- Each script is within its limits.
+-- Cited by `opening::scripts_are_short`; kt_run.
 use Rattle.std.proofs.Common.{◌≡◌, ℕ, ◌+◌, ◌<◌, ◌≤◌, zero, suc, List, [], ◌∷◌, length, get_or, inl, inr, subst, sym, arith}
 use Rattle.std.specs.Prelude.{IfSome, slice_get}
 use Rattle.std.proofs.lemmas.Bool.{cases_eq, cases_lt}
 use Rattle.kt_script.specs.declared.command.Command.{Command}
 use Rattle.kt_script.specs.Rules.{IsScript}
 use Rattle.kt_script.proofs.Shared.{keeps_limits}
-use Rattle.kt_world.specs.Short.{IsShort}
+use Rattle.kt_model.specs.Short.{IsShort}
 
 pub of_script : (script : List Command) → IsScript script → IsShort script
 of_script script is = let k = keeps_limits script is in record { is_script = is; commands = k.0; variables = k.1 }

@@ -1,54 +1,59 @@
 -- What the parts of a step come to.
+-- Cited by AtOnce, `World::can`, `World::is_allowed`, `World::step`, `resuming::gather`, `stepping::make_by_plan`,
+--   `stepping::make`, `stepping::prepare`.
 use Rattle.std.proofs.Common.{◌≡◌, ℕ, ◌+◌, ◌<◌, ◌^◌, if◌then◌else◌, Bool, true, false, Result, None, Ok, Err, refl, sym, ap, ◌∙◌, subst, arith}
 use Rattle.std.specs.Prelude.{nat_lt, not, IfErr, IfSome, IsOk, IsTrue, OnErr, OnOk}
 use Rattle.kt_store.specs.declared.error.StoreError.{StoreError}
 use Rattle.kt_store.specs.declared.error.StoreError.TheVariants as stores
 use Rattle.kt_store.specs.Content.{Content}
 use Rattle.kt_store.specs.Proper.{IsFull}
-use Rattle.kt_node.specs.declared.plan.Plan.{Plan}
-use Rattle.kt_world.specs.declared.step.Step.{Step}
-use Rattle.kt_world.specs.declared.step.StepError.{StepError}
-use Rattle.kt_world.specs.declared.step.StepError.TheVariants as refusals
-use Rattle.kt_world.specs.declared.told.Told.{Told}
-use Rattle.kt_world.specs.declared.needs.Needs.{Needs}
+use Rattle.kt_state.specs.declared.plan.Plan.{Plan}
+use Rattle.kt_scenario.specs.declared.step.Step.{Step}
+use Rattle.kt_model.specs.declared.error.StepError.{StepError}
+use Rattle.kt_model.specs.declared.error.StepError.TheVariants as refusals
+use Rattle.kt_model.specs.declared.store_reads.StoreReads.{StoreReads}
+use Rattle.kt_model.specs.declared.read_set.ReadSet.{ReadSet}
 use Rattle.kt_tuple.specs.declared.node.NodeId.{NodeId}
-use Rattle.kt_world.specs.Judge.{IsUndamaged, due, has_room, is_planned, judged, of_owner, of_scene, planned, planned_by, within_limit}
-use Rattle.kt_world.specs.Cast.{is_in_scene}
-use Rattle.kt_node.specs.declared.refusal.Refusal.TheVariants as reasons
-use Rattle.kt_node.specs.Plan.{Planned}
-use Rattle.kt_world.specs.Effect.{applied, applied_if, step_result}
-use Rattle.kt_world.specs.Writing.{content_after}
-use Rattle.kt_world.specs.inner.Backed.{IsAllowed, IsBacked}
-use Rattle.kt_world.proofs.Shared.{never-full, planned-allowed}
+use Rattle.kt_model.specs.StepPlan.{IsUndamaged, owner_plan, has_room, is_planned, unlimited_plan, of_owner, of_scene, step_plan, step_plan_by, within_limit}
+use Rattle.kt_scenario.specs.Scene.{is_in_scene}
+use Rattle.kt_state.specs.declared.refusal.Refusal.TheVariants as reasons
+use Rattle.kt_state.specs.Plan.{Planned}
+use Rattle.kt_model.specs.Effect.{applied, applied_if, step_result}
+use Rattle.kt_model.specs.Writing.{content_after}
+use Rattle.kt_model.specs.auxiliary.Backed.{IsAllowed, IsBacked}
+use Rattle.kt_model.proofs.Shared.{never-full, step_plan-allowed}
 use Rattle.kt_core.specs.declared.machine.Machine.{Machine}
-use Rattle.kt_core.specs.inner.Machine.{state_of}
-use Rattle.kt_world.specs.Needs.{needs_of}
-use Rattle.kt_world.specs.inner.Telling.{told_by}
-use Rattle.kt_world.specs.Told.{told}
-use Rattle.kt_world.specs.inner.Ready.{CanApply, IsReady}
-use Rattle.kt_world.specs.State.{State}
-use Rattle.kt_world.specs.Step.{owner}
-use Rattle.kt_world.proofs.Shared.{enough, plan-found, plan-few, plan-room, can_apply, room-none, stays_ready}
+use Rattle.kt_core.specs.auxiliary.Machine.{state_of}
+use Rattle.kt_model.specs.ReadSet.{read_set_of}
+use Rattle.kt_model.specs.auxiliary.Reading.{reads_by}
+use Rattle.kt_model.specs.StoreReads.{store_reads}
+use Rattle.kt_model.specs.auxiliary.Ready.{CanApply, IsReady}
+use Rattle.kt_model.specs.State.{State}
+use Rattle.kt_scenario.specs.Step.{owner}
+use Rattle.kt_model.proofs.Shared.{enough, plan-found, plan-few, plan-room, can_apply, room-none, stays_ready}
 use Rattle.std.specs.Result.{IsErrAnd}
-use Rattle.kt_core.specs.inner.Machine as machine
+use Rattle.kt_core.specs.auxiliary.Machine as machine
 use Rattle.kt_core.specs.Store.{IsFault, IsWriteFault}
-use Rattle.kt_core.specs.inner.Judged.{IsReadCause, is_refused}
+use Rattle.kt_core.specs.auxiliary.StepPlans.{IsReadCause, is_refused}
 use Rattle.kt_store.specs.Calls.{Counts, raised_by}
 use Rattle.kt_core.specs.Stepping.{IsByPlan, IsCalledFor, IsCause, Refuses, Writes, has_write, step_counted}
 use Rattle.kt_core.specs.World.{beside}
 
 -- what is asked for is what the rule of the step looks at
-pub asked : (s : State) (step : Step) (t : Told) (needs : Needs) (p : NodeId) → t ≡ told_by needs s.content p → needs ≡ needs_of s step → p ≡ owner step
-    → t ≡ told_by (needs_of s step) s.content (owner step)
-asked s step t needs p is n o = is ∙ ap (λ (x : Needs). told_by x s.content p) n ∙ ap (told_by (needs_of s step) s.content) o
+pub asked : (s : State) (step : Step) (t : StoreReads) (read_set : ReadSet) (p : NodeId) → t ≡ reads_by read_set s.content p → read_set ≡ read_set_of s step
+    → p ≡ owner step
+    → t ≡ reads_by (read_set_of s step) s.content (owner step)
+asked s step t read_set p is n o = is ∙ ap (λ (x : ReadSet). reads_by x s.content p) n ∙ ap (reads_by (read_set_of s step) s.content) o
 
 -- an owner that is told just what the rule looks at makes the plan that is due
-pub due-planned : (s : State) (step : Step) (t : Told) → t ≡ told_by (needs_of s step) s.content (owner step) → planned_by s t step ≡ planned s step
-due-planned s step t is = ap (λ (x : Told). planned_by s x step) is ∙ ap (within_limit (has_room s)) (enough s step)
+pub owner_plan-step_plan : (s : State) (step : Step) (t : StoreReads) → t ≡ reads_by (read_set_of s step) s.content (owner step)
+    → step_plan_by s t step ≡ step_plan s step
+owner_plan-step_plan s step t is = ap (λ (x : StoreReads). step_plan_by s x step) is ∙ ap (within_limit (has_room s)) (enough s step)
 
 -- the same where the limit is left aside
-pub due-judged : (s : State) (step : Step) (t : Told) → t ≡ told_by (needs_of s step) s.content (owner step) → judged s t step ≡ judged s (told s step) step
-due-judged s step t is = ap (λ (x : Told). judged s x step) is ∙ enough s step
+pub owner_plan-unlimited_plan : (s : State) (step : Step) (t : StoreReads) → t ≡ reads_by (read_set_of s step) s.content (owner step)
+    → unlimited_plan s t step ≡ unlimited_plan s (store_reads s step) step
+owner_plan-unlimited_plan s step t is = ap (λ (x : StoreReads). unlimited_plan s x step) is ∙ enough s step
 
 weaker : {Y : Type 0} (e : StepError) (due : Result Y StepError) → machine.Refuses e due → Refuses e due
 weaker refusals.OutOfMemory due r = r
@@ -61,9 +66,9 @@ weaker refusals.NotDecided due r = r
 weaker refusals.Unresolved due r = r
 weaker refusals.StepLimit due r = r
 
-pub refused : (s : State) (step : Step) (t : Told) (e : StepError) → t ≡ told_by (needs_of s step) s.content (owner step)
-    → machine.Gives {Y = Plan} (Err e) (planned_by s t step) → Refuses e (planned s step)
-refused s step t e is gives = weaker e (planned s step) (subst (machine.Refuses e) (due-planned s step t is) gives)
+pub refused : (s : State) (step : Step) (t : StoreReads) (e : StepError) → t ≡ reads_by (read_set_of s step) s.content (owner step)
+    → machine.Gives {Y = Plan} (Err e) (step_plan_by s t step) → Refuses e (step_plan s step)
+refused s step t e is gives = weaker e (step_plan s step) (subst (machine.Refuses e) (owner_plan-step_plan s step t is) gives)
 
 fault-of : (refusal : StoreError) → IsFault false refusal
 fault-of refusal = record { damaged = λ e. refl; full = λ e. refl }
@@ -111,12 +116,13 @@ limit-reached true (Err refusals.StepLimit) other e = absurd (other e)
 limit-reached true (Err refusals.OutOfMemory) other e = absurd cc
 
 -- a checkpoint that does not fit is the store's fault: an honest one gives none
-pub caused : (honest : Bool) (s b : State) (step : Step) (t : Told) (e : StepError) → IsReady b → (IsTrue honest → t ≡ told_by (needs_of s step) s.content (owner step))
-    → (IsTrue honest → IsUndamaged s) → machine.Gives {Y = Plan} (Err e) (planned_by s t step) → machine.Gives {Y = Plan} (Err e) (planned_by b t step)
+pub caused : (honest : Bool) (s b : State) (step : Step) (t : StoreReads) (e : StepError) → IsReady b
+    → (IsTrue honest → t ≡ reads_by (read_set_of s step) s.content (owner step))
+    → (IsTrue honest → IsUndamaged s) → machine.Gives {Y = Plan} (Err e) (step_plan_by s t step) → machine.Gives {Y = Plan} (Err e) (step_plan_by b t step)
     → IsReadCause b honest e
 caused honest s b step t refusals.OutOfMemory ready is fits gives there = tt
 caused true s b step t (refusals.Store x) ready is fits gives there =
-    absurd (fits refl step x (limit-store (has_room s) (judged s (told s step) step) x (sym (due-planned s step t (is refl)) ∙ gives)))
+    absurd (fits refl step x (limit-store (has_room s) (unlimited_plan s (store_reads s step) step) x (sym (owner_plan-step_plan s step t (is refl)) ∙ gives)))
 caused false s b step t (refusals.Store x) ready is fits gives there = fault-of x
 caused honest s b step t refusals.NoNode ready is fits gives there = tt
 caused honest s b step t refusals.WrongMode ready is fits gives there = tt
@@ -125,7 +131,7 @@ caused honest s b step t refusals.NoSuchMatch ready is fits gives there = tt
 caused honest s b step t refusals.NotDecided ready is fits gives there = tt
 caused honest s b step t refusals.Unresolved ready is fits gives there = tt
 caused honest s b step t refusals.StepLimit ready is fits gives there =
-    room-none b ready (limit-reached (has_room b) (judged b t step) (scene-limit (is_in_scene b.cast step) (due b t step)) there)
+    room-none b ready (limit-reached (has_room b) (unlimited_plan b t step) (scene-limit (is_in_scene b.scene step) (owner_plan b t step)) there)
 
 -- so it is a cause of the step's refusal, whatever the store holds
 pub read-caused : (b : State) (c : Content) (step : Step) (honest : Bool) (e : StepError) → IsReadCause b honest e
@@ -178,12 +184,12 @@ scene-damaged true r x e = owner-damaged r x e
 scene-damaged false r x e = absurd cc
 
 -- of a plan's refusals only that of a checkpoint that does not fit is the store's
-pub only-damaged : (s : State) (t : Told) (step : Step) (e : StepError) → machine.Gives {Y = Plan} (Err e) (planned_by s t step)
+pub only-damaged : (s : State) (t : StoreReads) (step : Step) (e : StepError) → machine.Gives {Y = Plan} (Err e) (step_plan_by s t step)
     → (x : StoreError) → e ≡ refusals.Store x → x ≡ stores.Damaged
 only-damaged s t step e gives x is =
-    let P : StepError → Type 0 = λ y. machine.Refuses y (planned_by s t step) in
-    let h : planned_by s t step ≡ Err (refusals.Store x) = subst P is gives in
-    scene-damaged (is_in_scene s.cast step) (due s t step) x (limit-store (has_room s) (judged s t step) x h)
+    let P : StepError → Type 0 = λ y. machine.Refuses y (step_plan_by s t step) in
+    let h : step_plan_by s t step ≡ Err (refusals.Store x) = subst P is gives in
+    scene-damaged (is_in_scene s.scene step) (owner_plan s t step) x (limit-store (has_room s) (unlimited_plan s t step) x h)
 
 -- so it raises no count of the store
 plan-uncounted : (T : Type 0) (e : StepError) (c : Counts) → ((x : StoreError) → e ≡ refusals.Store x → x ≡ stores.Damaged) → c ≡ step_counted {T = T} (Err e) c
@@ -206,12 +212,14 @@ plan-counted {T = T} (Err y) e before now is same only =
 pub is-ok : {X E : Type 0} (r : Result X E) (x : X) → r ≡ Ok x → IsOk r
 is-ok {X = X} {E = E} r x e = let P : Result X E → Type 0 = IsOk in subst P (sym e) refl
 
-pub planned-can : (s : State) (step : Step) (t : Told) (plan : Plan) → IsReady s → machine.Gives (Ok plan) (planned_by s t step) → CanApply s (owner step) plan
-planned-can s step t plan ready gives = can_apply s ready t step plan (plan-found s t step plan gives)
+pub step_plan-can : (s : State) (step : Step) (t : StoreReads) (plan : Plan) → IsReady s → machine.Gives (Ok plan) (step_plan_by s t step)
+    → CanApply s (owner step) plan
+step_plan-can s step t plan ready gives = can_apply s ready t step plan (plan-found s t step plan gives)
 
-pub planned-leads : (s : State) (step : Step) (t : Told) (plan : Plan) → IsReady s → machine.Gives (Ok plan) (planned_by s t step)
+pub step_plan-leads : (s : State) (step : Step) (t : StoreReads) (plan : Plan) → IsReady s → machine.Gives (Ok plan) (step_plan_by s t step)
     → IsReady (applied s step plan)
-planned-leads s step t plan ready gives = stays_ready s ready (plan-few s t step plan gives) (plan-room s t step plan gives) t step plan (plan-found s t step plan gives)
+step_plan-leads s step t plan ready gives = stays_ready s ready (plan-few s t step plan gives) (plan-room s t step plan gives) t step plan
+    (plan-found s t step plan gives)
 
 -- what is said of the refusal holds of it where that follows from how it came about
 pub on-refusal : {T E : Type 0} (r : Result T E) (P Q : E → Type 0) → IsErrAnd r P → ((e : E) → P e → Q e) → IfErr r Q
@@ -225,7 +233,7 @@ on-error (Err e) P p = p
 -- readiness does not look at what a store holds
 pub ready-beside : (s : State) (c : Content) → IsReady s → IsReady (record s { content = c })
 ready-beside s c r = record {
-  cast = r.cast;
+  scene = r.scene;
   scripts = r.scripts;
   rows = r.rows;
   counts = r.counts;
@@ -240,10 +248,10 @@ ready-beside s c r = record {
 }
 
 -- what the plan refuses, it does not refuse for the store
-pub called-plan : (s : State) (step : Step) (t : Told) (e : StepError) → t ≡ told_by (needs_of s step) s.content (owner step) → IsUndamaged s
-    → machine.Gives {Y = Plan} (Err e) (planned_by s t step) → IsCalledFor s step e
+pub called-plan : (s : State) (step : Step) (t : StoreReads) (e : StepError) → t ≡ reads_by (read_set_of s step) s.content (owner step) → IsUndamaged s
+    → machine.Gives {Y = Plan} (Err e) (step_plan_by s t step) → IsCalledFor s step e
 called-plan s step t (refusals.Store x) is fits gives =
-    absurd (fits step x (limit-store (has_room s) (judged s (told s step) step) x (sym (due-planned s step t is) ∙ gives)))
+    absurd (fits step x (limit-store (has_room s) (unlimited_plan s (store_reads s step) step) x (sym (owner_plan-step_plan s step t is) ∙ gives)))
 called-plan s step t refusals.OutOfMemory is fits gives = tt
 called-plan s step t refusals.NoNode is fits gives = tt
 called-plan s step t refusals.WrongMode is fits gives = tt
@@ -254,12 +262,12 @@ called-plan s step t refusals.Unresolved is fits gives = tt
 called-plan s step t refusals.StepLimit is fits gives = tt
 
 -- a write that is refused is one that was planned
-pub called-write : (s : State) (step : Step) (plan : Plan) (x : StoreError) → planned s step ≡ Ok plan → ¬ (plan.write ≡ None)
+pub called-write : (s : State) (step : Step) (plan : Plan) (x : StoreError) → step_plan s step ≡ Ok plan → ¬ (plan.write ≡ None)
     → IsCalledFor s step (refusals.Store x)
 called-write s step plan x is writes = has_write (subst Writes (sym is) writes)
 
 -- what was carried out, with the write made before, is what the step is to do
-pub effect : (old mid new : Machine) (before between after : Content) (step : Step) (plan : Plan) (p : NodeId) → planned (state_of old before) step ≡ Ok plan
+pub effect : (old mid new : Machine) (before between after : Content) (step : Step) (plan : Plan) (p : NodeId) → step_plan (state_of old before) step ≡ Ok plan
     → ((c : Content) → state_of mid c ≡ state_of old c) → between ≡ before → p ≡ owner step → after ≡ content_after p plan.write between
     → ((c : Content) → state_of new (content_after (owner step) plan.write c) ≡ applied (state_of mid c) step plan)
     → step_result (state_of old before) step ≡ Ok (state_of new after)
@@ -272,26 +280,26 @@ effect old mid new before between after step plan p is same read owned wrote car
 
 -- what a step leads to it leads to by its plan
 pub by-result : (old new : State) (step : Step) → step_result old step ≡ Ok new → IsByPlan old step new
-by-result old new step e = by (planned old step) refl e
+by-result old new step e = by (step_plan old step) refl e
   where
-    by : (r : Result Plan StepError) → planned old step ≡ r → applied_if old step r ≡ Ok new → IsByPlan old step new
+    by : (r : Result Plan StepError) → step_plan old step ≡ r → applied_if old step r ≡ Ok new → IsByPlan old step new
     by (Ok plan) is e =
         let same : applied old step plan ≡ new = cc in
-        record { told = told old step; plan = plan; is = is; leads = ap beside (sym same) }
+        record { store_reads = store_reads old step; plan = plan; is = is; leads = ap beside (sym same) }
     by (Err refusal) is e = absurd cc
 
 -- whatever the store holds
-pub planned-beside : {X : Type 0} (r : Result X StepError) (old new : Machine) (first before after : Content) (step : Step)
+pub step_plan-beside : {X : Type 0} (r : Result X StepError) (old new : Machine) (first before after : Content) (step : Step)
     → OnOk r (IsByPlan (state_of old first) step (state_of new first)) → OnOk r (IsByPlan (state_of old before) step (state_of new after))
-planned-beside (Ok x) old new first before after step h = record { told = h.told; plan = h.plan; is = h.is; leads = h.leads }
-planned-beside (Err e) old new first before after step h = tt
+step_plan-beside (Ok x) old new first before after step h = record { store_reads = h.store_reads; plan = h.plan; is = h.is; leads = h.leads }
+step_plan-beside (Err e) old new first before after step h = tt
 
 -- the write of what is planned is one that the store allows
-pub allowed : (s : State) (step : Step) (plan : Plan) (c : Content) (p : NodeId) → IsBacked s → planned s step ≡ Ok plan
+pub allowed : (s : State) (step : Step) (plan : Plan) (c : Content) (p : NodeId) → IsBacked s → step_plan s step ≡ Ok plan
     → c ≡ s.content → p ≡ owner step → IfSome plan.write (IsAllowed c p)
 allowed s step plan c p backed is read owned =
     subst (λ (d : Content). IfSome plan.write (IsAllowed d p)) (sym read)
-    (subst (λ (q : NodeId). IfSome plan.write (IsAllowed s.content q)) (sym owned) (planned-allowed s backed step plan is))
+    (subst (λ (q : NodeId). IfSome plan.write (IsAllowed s.content q)) (sym owned) (step_plan-allowed s backed step plan is))
 
 -- what is not refused is enabled
 pub enabled : (r due : Result Plan StepError) → machine.Gives r due → not (is_refused r) ≡ is_planned due

@@ -1,4 +1,7 @@
 -- What making room, sending and taking off leave of the links.
+-- Cited by `Machine::carry_out_short`, `Machine::carry_out`, `Machine::make_room_for_short`, `Machine::make_room`,
+--   `traffic::make_room_on_links`, `traffic::send_all`, `traffic::send_if_any`, `traffic::send_one`,
+--   `traffic::take_off`.
 use Rattle.std.proofs.Common.{◌≡◌, ℕ, zero, suc, ◌+◌, ◌<◌, ◌≤◌, List, [], ◌∷◌, ◌++◌, length, set, get_or, take}
 use Rattle.std.proofs.Common.{Option, None, Some, ◌⊎◌, inl, inr, refl, sym, ap, ◌∙◌, subst, arith}
 use Rattle.std.specs.List.{AllByRecursion}
@@ -8,12 +11,12 @@ use Rattle.kt_tuple.specs.Node.{node_index}
 use Rattle.kt_tuple.proofs.Shared.{node_index-injective}
 use Rattle.kt_link.specs.Network.{Network, AreNeighbours, ChangesOnly, place, queue, room, entry_at, with_entry}
 use Rattle.kt_link.proofs.Shared.{other_room}
-use Rattle.kt_node.specs.declared.message.Message.{Message}
-use Rattle.kt_world.specs.Cast.{Cast}
-use Rattle.kt_world.specs.inner.Ready as ready
-use Rattle.kt_world.proofs.Shared.{Ends, all-through, to_shard, to_worker, ends}
-use Rattle.kt_world.specs.Effect.{Way, sent_one, sent}
-use Rattle.kt_core.specs.inner.Traffic.{IsSameTraffic}
+use Rattle.kt_state.specs.declared.message.Message.{Message}
+use Rattle.kt_scenario.specs.Scene.{SceneModel}
+use Rattle.kt_model.specs.auxiliary.Ready as ready
+use Rattle.kt_model.proofs.Shared.{Ends, all-through, to_shard, to_worker, ends}
+use Rattle.kt_model.specs.Effect.{Way, sent_one, sent}
+use Rattle.kt_core.specs.auxiliary.Traffic.{IsSameTraffic}
 
 abbrev pub Net : Type 0
 Net = Network Message
@@ -90,18 +93,18 @@ pub sent-one : (old new : Net) (p q : NodeId) (m : Message) → queue new p q �
 sent-one old new p q m appended only = ap (λ (n : Net). n.queues) only ∙ ap (with_entry old.queues (place old.workers old.shards p q)) appended
 
 -- neighbours in the scene are neighbours on the links
-linked : (cast : Cast) (p q : NodeId) → Ends cast p q → AreNeighbours (length cast.scripts) cast.shards p q
-linked cast p q (to_shard w few r fewr) = ((w, few), (r, fewr))
-linked cast p q (to_worker w few r fewr) = ((w, few), (r, fewr))
+linked : (scene : SceneModel) (p q : NodeId) → Ends scene p q → AreNeighbours (length scene.scripts) scene.shards p q
+linked scene p q (to_shard w few r fewr) = ((w, few), (r, fewr))
+linked scene p q (to_worker w few r fewr) = ((w, few), (r, fewr))
 
-pub wired : (cast : Cast) (net : Net) (p : NodeId) (send : List (NodeId × Message)) → net.workers ≡ length cast.scripts → net.shards ≡ cast.shards
-    → AllByRecursion (λ (m : NodeId × Message). ready.AreNeighbours cast p m.0) send
+pub wired : (scene : SceneModel) (net : Net) (p : NodeId) (send : List (NodeId × Message)) → net.workers ≡ length scene.scripts → net.shards ≡ scene.shards
+    → AllByRecursion (λ (m : NodeId × Message). ready.AreNeighbours scene p m.0) send
     → AllByRecursion (λ (m : NodeId × Message). AreNeighbours net.workers net.shards p m.0) send
-wired cast net p send w s all =
+wired scene net p send w s all =
     subst (λ (k : ℕ). AllByRecursion (λ (m : NodeId × Message). AreNeighbours k net.shards p m.0) send) (sym w)
-    (subst (λ (k : ℕ). AllByRecursion (λ (m : NodeId × Message). AreNeighbours (length cast.scripts) k p m.0) send) (sym s)
-    (all-through (λ (m : NodeId × Message). ready.AreNeighbours cast p m.0) (λ (m : NodeId × Message). AreNeighbours (length cast.scripts) cast.shards p m.0)
-    send (λ m h. linked cast p m.0 (ends cast p m.0 h)) all))
+    (subst (λ (k : ℕ). AllByRecursion (λ (m : NodeId × Message). AreNeighbours (length scene.scripts) k p m.0) send) (sym s)
+    (all-through (λ (m : NodeId × Message). ready.AreNeighbours scene p m.0) (λ (m : NodeId × Message). AreNeighbours (length scene.scripts) scene.shards p m.0)
+    send (λ m h. linked scene p m.0 (ends scene p m.0 h)) all))
 
 -- ---- sending all messages, one after the other
 

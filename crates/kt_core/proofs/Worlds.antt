@@ -1,24 +1,25 @@
 -- A world that was opened, and each that a step leads to, was reached by steps while its store is honest.
+-- Cited by `World::open_fresh`, `World::step`.
 use Rattle.std.proofs.Common.{◌≡◌, true, ◌&&◌, Bool, List, [], ◌∷◌, ◌++◌, Result, Ok, Err, refl, sym, ap, subst, ◌∙◌}
 use Rattle.std.specs.Prelude.{IsTrue, OnErr, OnOk}
 use Rattle.kt_store.specs.declared.rows.NodeRow.{NodeRow}
-use Rattle.kt_store.specs.declared.rows.Posted.{Posted}
+use Rattle.kt_store.specs.declared.rows.InstanceRow.{InstanceRow}
 use Rattle.kt_store.specs.Content.{Content, empty_content, is_empty, is_fresh}
-use Rattle.kt_world.specs.Cast.{Cast, IsCast}
-use Rattle.kt_world.specs.Short.{AreShort}
-use Rattle.kt_world.proofs.Shared.{made-noted, opening-ready}
+use Rattle.kt_scenario.specs.Scene.{SceneModel, IsScene}
+use Rattle.kt_model.specs.Short.{AreShort}
+use Rattle.kt_model.proofs.Shared.{made-noted, opening-ready}
 use Rattle.kt_refinement.proofs.Shared.{forced-reached}
-use Rattle.kt_world.specs.declared.step.Step.{Step}
-use Rattle.kt_world.specs.declared.step.StepError.{StepError}
-use Rattle.kt_world.specs.Effect.{step_result}
-use Rattle.kt_world.specs.Forced.{IsForced}
-use Rattle.kt_world.specs.Headline.{IsNoted}
-use Rattle.kt_world.specs.inner.Ready.{IsReady}
-use Rattle.kt_world.specs.Reached.{opening, next_state, or_as_it_was, after, IsReached, opened as opens}
-use Rattle.kt_world.specs.State.{State}
+use Rattle.kt_scenario.specs.declared.step.Step.{Step}
+use Rattle.kt_model.specs.declared.error.StepError.{StepError}
+use Rattle.kt_model.specs.Effect.{step_result}
+use Rattle.kt_model.specs.Forced.{IsForced}
+use Rattle.kt_model.specs.Headline.{IsNoted}
+use Rattle.kt_model.specs.auxiliary.Ready.{IsReady}
+use Rattle.kt_model.specs.Reached.{opening, next_state, or_as_it_was, after, IsReached, opened as opens}
+use Rattle.kt_model.specs.State.{State}
 use Rattle.kt_core.specs.declared.machine.Machine.{Machine}
-use Rattle.kt_core.specs.inner.Machine.{state_of}
-use Rattle.kt_core.specs.inner.Kept.{IsWorld}
+use Rattle.kt_core.specs.auxiliary.Machine.{state_of}
+use Rattle.kt_core.specs.auxiliary.Kept.{IsWorld}
 
 after-push : (s : State) (steps : List Step) (step : Step) → after s (steps ++ step ∷ []) ≡ next_state (after s steps) step
 unfolding after
@@ -66,19 +67,20 @@ step-noted (Err e) s new step is made = tt
 fresh-empty : (c : Content) → is_fresh c ≡ true → c ≡ empty_content
 fresh-empty c e = by c.nodes c.board refl refl e
   where
-    by : (nodes : List NodeRow) (board : List Posted) → c.nodes ≡ nodes → c.board ≡ board → (is_empty nodes && is_empty board) ≡ true → c ≡ empty_content
+    by : (nodes : List NodeRow) (board : List InstanceRow) → c.nodes ≡ nodes → c.board ≡ board → (is_empty nodes && is_empty board) ≡ true → c ≡ empty_content
     by [] [] n b e = λ i. record { nodes = n i; board = b i }
     by [] (x ∷ later) n b e = absurd cc
     by (x ∷ later) board n b e = absurd cc
 
 -- a world that was opened over a fresh store is at its opening
-pub opened-state : (m : Machine) (cast : Cast) (c : Content) → state_of m empty_content ≡ opening cast → is_fresh c ≡ true → state_of m c ≡ opening cast
-opened-state m cast c opened fresh = ap (state_of m) (fresh-empty c fresh) ∙ opened
+pub opened-state : (m : Machine) (scene : SceneModel) (c : Content) → state_of m empty_content ≡ opening scene → is_fresh c ≡ true
+    → state_of m c ≡ opening scene
+opened-state m scene c opened fresh = ap (state_of m) (fresh-empty c fresh) ∙ opened
 
-pub opened-world : (m : Machine) (cast : Cast) (c : Content) (honest : Bool) → state_of m empty_content ≡ opening cast → IsCast cast → AreShort cast
+pub opened-world : (m : Machine) (scene : SceneModel) (c : Content) (honest : Bool) → state_of m empty_content ≡ opening scene → IsScene scene → AreShort scene
     → (IsTrue honest → is_fresh c ≡ true) → IsWorld (state_of m c) honest
 unfolding after
-opened-world m cast c honest opened is short fresh = record {
-  ready = let P : State → Type 0 = IsReady in subst P (sym opened) (opening-ready cast is short);
-  reached = λ h. record { start = opening cast; is_start = opens cast is short; steps = []; leads = sym (opened-state m cast c opened (fresh h)) };
+opened-world m scene c honest opened is short fresh = record {
+  ready = let P : State → Type 0 = IsReady in subst P (sym opened) (opening-ready scene is short);
+  reached = λ h. record { start = opening scene; is_start = opens scene is short; steps = []; leads = sym (opened-state m scene c opened (fresh h)) };
 }

@@ -3,6 +3,5 @@ pub mod Stepping
 pub mod World
 pub mod Resuming
 pub mod Starting
-pub mod Faults
 pub mod Lent
-pub mod inner
+pub mod auxiliary

@@ -1,15 +1,17 @@
 -- Why a step is refused.
+-- Cited by Steps, stepping.rt, world.rt, `World::step`, `stepping::make_by_plan`, `stepping::prepare`; kt_scene,
+--   kt_stage.
 use Rattle.std.specs.Prelude.{◌≡◌, ◌≢◌, Bool, Result, Ok, Err, None, IsOk, IsTrue}
-use Rattle.kt_node.specs.declared.plan.Plan.{Plan}
-use Rattle.kt_world.specs.declared.step.Step.{Step}
-use Rattle.kt_world.specs.declared.step.StepError.{StepError}
-use Rattle.kt_world.specs.declared.step.StepError.TheVariants as refusals
-use Rattle.kt_world.specs.declared.told.Told.{Told}
-use Rattle.kt_world.specs.Effect.{applied}
-use Rattle.kt_world.specs.Judge.{is_at_limit, planned, planned_by}
-use Rattle.kt_world.specs.Needs.{needs_of, no_needs}
-use Rattle.kt_world.specs.State.{State}
-use Rattle.kt_world.specs.Step.{owner}
+use Rattle.kt_state.specs.declared.plan.Plan.{Plan}
+use Rattle.kt_scenario.specs.declared.step.Step.{Step}
+use Rattle.kt_model.specs.declared.error.StepError.{StepError}
+use Rattle.kt_model.specs.declared.error.StepError.TheVariants as refusals
+use Rattle.kt_model.specs.declared.store_reads.StoreReads.{StoreReads}
+use Rattle.kt_model.specs.Effect.{applied}
+use Rattle.kt_model.specs.StepPlan.{is_at_limit, step_plan, step_plan_by}
+use Rattle.kt_model.specs.ReadSet.{read_set_of, empty_read_set}
+use Rattle.kt_model.specs.State.{State}
+use Rattle.kt_scenario.specs.Step.{owner}
 use Rattle.kt_store.specs.Calls.{Counts, raised_by}
 use Rattle.kt_core.specs.Store.{IsFault, IsWriteFault}
 use Rattle.kt_core.specs.World.{beside}
@@ -36,9 +38,9 @@ step_counted result before = before
 
 -- one step was made by the plan that some answers of the store lead to, whatever the store holds
 pub record IsByPlan (old : State) (step : Step) (new : State) : Type 0 where
-  pub told : Told
+  pub store_reads : StoreReads
   pub plan : Plan
-  pub is : planned_by old told step ≡ Ok plan
+  pub is : step_plan_by old store_reads step ≡ Ok plan
   pub leads : beside new ≡ beside (applied old step plan)
 
 -- the plan has something to write
@@ -48,8 +50,8 @@ Writes (Err refusal) = ⊥
 
 -- the store is called for the step: its rule looks at something that is stored, or its plan has something to write
 pub data CallsStore (s : State) (step : Step) : Type 0 where
-  looks : needs_of s step ≢ no_needs → CallsStore s step
-  has_write : Writes (planned s step) → CallsStore s step
+  looks : read_set_of s step ≢ empty_read_set → CallsStore s step
+  has_write : Writes (step_plan s step) → CallsStore s step
 
 -- only such a step is refused by the store
 abbrev pub IsCalledFor : State → Step → StepError → Type 0

@@ -1,20 +1,23 @@
--- What a world is to its callers.
+-- The abstract state of a world.
+-- Cited by Steps, specs/Resuming, specs/Starting, specs/Stepping, specs/auxiliary/Kept, world.rt, `World::bags`,
+--   `World::can`, `World::history`, `World::is_allowed`, `World::is_steady`, `World::permanent_space`,
+--   `World::share_shard`, `World::step`, `stepping::make_by_plan`; kt_run, kt_scene, kt_stage.
 use Rattle.std.specs.Prelude.{◌≡◌, Bool, true, false, IsTrue}
 use Rattle.kt_core.specs.declared.world.OpenError.{OpenError}
 use Rattle.kt_core.specs.declared.world.OpenError.TheVariants as opened
 use Rattle.kt_core.specs.Store.{IsFault, StoreValue}
 use Rattle.kt_store.specs.Calls.{Counts, raised_by}
 use Rattle.kt_store.specs.Content.{empty_content, is_fresh}
-use Rattle.kt_world.specs.State.{State}
+use Rattle.kt_model.specs.State.{State}
 
 -- its state, what the store holds among it; whether the store is honest, and how often it refused a call
-pub record Standing : Type 0 where
+pub record WorldModel : Type 0 where
   pub state : State
   pub is_honest : Bool
   pub counts : Counts
 
 -- its store
-abbrev pub store_of : Standing → StoreValue
+abbrev pub store_of : WorldModel → StoreValue
 store_of w = record { content = w.state.content; is_honest = w.is_honest; counts = w.counts }
 
 -- the state but for what the store holds

@@ -1,15 +1,16 @@
 //! A worker asks once more: look, make room, act. No plan is built; that of the step says what comes of it.
+//! Cited by short_plans.rt.
 
 ghost use Rattle.std.specs.Prelude.{◌≡◌, ◌≤◌, IfOk, IfSome, IsOk, IsTrue, Ok, OnErr, OnOk, false};
 ghost use Rattle.kt_history.specs.Chronicle.{room_of};
 ghost use Rattle.kt_link.specs.Network.{room};
 ghost use Rattle.kt_node.specs.AtOnce.{again_plan, said_plan};
 ghost use Rattle.kt_store.specs.Content.{Content, empty_content};
-ghost use Rattle.kt_world.specs.declared.step.Step.TheVariants as steps;
-ghost use Rattle.kt_world.specs.Effect.{applied, step_result};
-ghost use Rattle.kt_world.specs.Judge.{planned};
-ghost use Rattle.kt_world.specs.inner.Ready.{AreNeighbours, CanApply, IsReady};
-ghost use Rattle.kt_core.specs.inner.Machine.{state_of};
+ghost use Rattle.kt_scenario.specs.declared.step.Step.TheVariants as steps;
+ghost use Rattle.kt_model.specs.Effect.{applied, step_result};
+ghost use Rattle.kt_model.specs.StepPlan.{step_plan};
+ghost use Rattle.kt_model.specs.auxiliary.Ready.{AreNeighbours, CanApply, IsReady};
+ghost use Rattle.kt_core.specs.auxiliary.Machine.{state_of};
 
 use crate::change::{count, say_in_row};
 use crate::machine::Machine;
@@ -23,7 +24,7 @@ impl Machine {
     fn asked_again(&self, node: NodeId) -> Option<Again<'_>>
         requires { IsReady (state_of self.now empty_content) }
         ensures { IfSome result (λ r. (c : Content) →
-            planned (state_of self.now c) (steps.Repeat node) ≡ Ok (again_plan node r)) }
+            step_plan (state_of self.now c) (steps.Repeat node) ≡ Ok (again_plan node r)) }
     {
         if !self.scene.has_worker(node) || !self.has_room() {
             return None;
@@ -87,7 +88,7 @@ impl Machine {
         ensures left { IfOk result (λ made. made ≡ false → self.new ≡ self.old) }
         ensures same { OnErr result ((c : Content) → state_of self.new c ≡ state_of self.old c) }
         ensures enabled { OnErr result ((c : Content) →
-            IsOk (planned (state_of self.old c) (steps.Repeat node))) }
+            IsOk (step_plan (state_of self.old c) (steps.Repeat node))) }
     {
         let Some(again) = self.asked_again(node) else {
             return Ok(false);

@@ -1,7 +1,8 @@
 //! The cause of a service.
+//! Cited by planning.rt, short_plans.rt.
 
 ghost use Rattle.std.specs.Prelude.{◌≡◌};
-ghost use Rattle.kt_lines.specs.Cause.{cause_of_waiting, hears_worker};
+ghost use Rattle.kt_logs.specs.Cause.{cause_of_waiting, hears_worker};
 
 use kt_history::{Act, History, What};
 use kt_tuple::NodeId;
@@ -13,7 +14,7 @@ fn hears(act: &Act, worker: u8) -> bool
     matches!(act.what, What::Heard) && act.worker == worker
 }
 
-/// The cause of the hearing that put the worker's request in waiting; 0 where the shard's line has none.
+/// The cause of the hearing that put the worker's request in waiting; 0 where the shard's log has none.
 pub(crate) fn cause_of_waiting(history: &History, shard: NodeId, worker: u8) -> u64
     ensures { result ≡ cause_of_waiting history.now.notes shard worker }
 {

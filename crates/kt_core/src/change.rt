@@ -1,19 +1,20 @@
 //! Changing a node, once nothing can be refused any more.
+//! Cited by at_once.rt, lending.rt, machine.rt, short_plans.rt.
 
 ghost use Rattle.std.specs.Prelude.{◌≡◌, ◌<◌, ◌+◌, ◌^◌, None, Some, length, map, IfOk, OnOk, IfSome, IsTrue, unwrap_or};
 ghost use Rattle.std.specs.Option.{option_map};
 ghost use Rattle.kt_core.specs.Lent.{shard_up};
-ghost use Rattle.kt_core.specs.inner.Rows.{HasRoom, row_view};
-ghost use Rattle.kt_node.specs.declared.change.Change.TheVariants.{Turn as Goes};
-ghost use Rattle.kt_node.specs.ShortPlan.{turn_of};
-ghost use Rattle.kt_node.specs.Node.{Down};
-ghost use Rattle.kt_node.specs.Plan.{no_turn};
-ghost use Rattle.kt_node.specs.Ready.{CanChange};
+ghost use Rattle.kt_core.specs.auxiliary.Rows.{HasRoom, row_view};
+ghost use Rattle.kt_state.specs.declared.change.Change.TheVariants.{Update as Goes};
+ghost use Rattle.kt_state.specs.ShortUpdate.{update_of};
+ghost use Rattle.kt_state.specs.Node.{Down};
+ghost use Rattle.kt_state.specs.Updating.{no_update};
+ghost use Rattle.kt_state.specs.Ready.{CanChange};
 ghost use Rattle.kt_node.specs.Steps.{up_of};
-ghost use Rattle.kt_node.specs.Turning.{changed};
+ghost use Rattle.kt_state.specs.Updating.{changed};
 ghost use Rattle.kt_shard.specs.Table.{at, put};
 
-use kt_node::{Change, Mode, Node, ShortTurn};
+use kt_node::{Change, Mode, Node, ShortUpdate};
 use kt_shard::Shard;
 use kt_tuple::NodeId;
 use std::alloc::{AllocError, Global};
@@ -87,43 +88,43 @@ fn change_row(row: &mut Option<Node>, change: Change)
 pub(crate) fn say_in_row(nodes: &mut Vec<Option<Node>>, row: usize, to: NodeId)
     requires row { row < length nodes.old.items }
     requires can { CanChange (unwrap_or (at None (map row_view nodes.old.items) row) Down)
-        (Goes (record no_turn { said = Some to })) }
+        (Goes (record no_update { said = Some to })) }
     ensures { map row_view nodes.new.items ≡ put None (map row_view nodes.old.items) row
-        (option_map (changed (Goes (record no_turn { said = Some to })))
+        (option_map (changed (Goes (record no_update { said = Some to })))
         (at None (map row_view nodes.old.items) row)) }
 {
     say(&mut nodes[row], to);
 }
 
 fn say(row: &mut Option<Node>, to: NodeId)
-    requires { CanChange (unwrap_or (row_view row.old) Down) (Goes (record no_turn { said = Some to })) }
+    requires { CanChange (unwrap_or (row_view row.old) Down) (Goes (record no_update { said = Some to })) }
     ensures { row_view row.new ≡
-        option_map (changed (Goes (record no_turn { said = Some to }))) (row_view row.old) }
+        option_map (changed (Goes (record no_update { said = Some to }))) (row_view row.old) }
 {
     if let Some(node) = row {
         node.say(to);
     }
 }
 
-/// Makes the turn of the node of this row, which takes no memory.
-pub(crate) fn turn_in_row(nodes: &mut Vec<Option<Node>>, row: usize, turn: ShortTurn)
+/// Makes the update of the node of this row, which takes no memory.
+pub(crate) fn update_in_row(nodes: &mut Vec<Option<Node>>, row: usize, update: ShortUpdate)
     requires row { row < length nodes.old.items }
-    requires can { CanChange (unwrap_or (at None (map row_view nodes.old.items) row) Down) (Goes (turn_of turn)) }
+    requires can { CanChange (unwrap_or (at None (map row_view nodes.old.items) row) Down) (Goes (update_of update)) }
     requires room { HasRoom (at None nodes.old.items row) }
     ensures { map row_view nodes.new.items ≡ put None (map row_view nodes.old.items) row
-        (option_map (changed (Goes (turn_of turn))) (at None (map row_view nodes.old.items) row)) }
+        (option_map (changed (Goes (update_of update))) (at None (map row_view nodes.old.items) row)) }
 {
-    turn_short(&mut nodes[row], turn);
+    update_short(&mut nodes[row], update);
 }
 
-fn turn_short(row: &mut Option<Node>, turn: ShortTurn)
-    requires can { CanChange (unwrap_or (row_view row.old) Down) (Goes (turn_of turn)) }
+fn update_short(row: &mut Option<Node>, update: ShortUpdate)
+    requires can { CanChange (unwrap_or (row_view row.old) Down) (Goes (update_of update)) }
     requires room { HasRoom row.old }
-    ensures { row_view row.new ≡ option_map (changed (Goes (turn_of turn))) (row_view row.old) }
+    ensures { row_view row.new ≡ option_map (changed (Goes (update_of update))) (row_view row.old) }
 {
     match row {
-        Some(node) => node.turn_short(turn),
-        None => drop(turn),
+        Some(node) => node.update_short(update),
+        None => drop(update),
     }
 }
 

@@ -1,15 +1,16 @@
 //! What a machine lends of its nodes and of what is on its way.
+//! Cited by planning.rt, read_sets.rt, world.rt.
 
 ghost use Rattle.std.specs.Prelude.{◌≡◌, length, slice_get, IfOk};
 ghost use Rattle.std.specs.Option.{option_copied, option_map};
 ghost use Rattle.kt_store.specs.Content.{Content, empty_content};
 ghost use Rattle.kt_core.specs.Lent.{kept, message_at, shard, worker};
-ghost use Rattle.kt_core.specs.inner.Machine.{state_of};
-ghost use Rattle.kt_world.specs.State.{link, node};
+ghost use Rattle.kt_core.specs.auxiliary.Machine.{state_of};
+ghost use Rattle.kt_model.specs.State.{link, node};
 
 use crate::change::share_in_row;
 use crate::machine::Machine;
-use kt_node::{Message, Mode, Node, Post};
+use kt_node::{AppMessage, Message, Mode, Node};
 use kt_shard::Shard;
 use kt_tuple::NodeId;
 use kt_worker::Worker;
@@ -34,7 +35,7 @@ impl Machine {
     }
 
     /// The kept message that has so many before it, with its sender.
-    pub(crate) fn kept_at(&self, id: NodeId, index: usize) -> Option<&(NodeId, Post)>
+    pub(crate) fn kept_at(&self, id: NodeId, index: usize) -> Option<&(NodeId, AppMessage)>
         ensures { option_copied result ≡ slice_get (kept (state_of self.now empty_content) id) index }
     {
         self.node_at(id)?.kept(index)

@@ -3,8 +3,9 @@
 //!
 //! - Contract: while the store is honest, a step that is made has the effect of its rule (`World::step`, clause
 //!   `effect`), and a refused one changes nothing (`same`). Every state keeps the headline then (`headline`).
-//! - Stands on: kt_tuple, kt_script, kt_space, kt_link, kt_shard, kt_worker, kt_vote, kt_history, kt_ckpt, kt_store,
-//!   kt_protocol, kt_lines, kt_node, kt_world, kt_resume, kt_refinement; of the kit: arrayvec, thiserror
+//! - Stands on: kt_tuple, kt_script, kt_space, kt_link, kt_shard, kt_worker, kt_vote, kt_history, kt_scenario, kt_ckpt,
+//!   kt_store, kt_protocol, kt_logs, kt_state, kt_node, kt_model, kt_resume, kt_refinement; of the kit: arrayvec,
+//!   thiserror
 //! - Used by: kt_scene, kt_stage, kt_run, kt_command, kt_example, kt_memory_tests
 //! - Begin in: `world.rt`, which has the public calls of a world but for `resume` (`resuming.rt`), then `stepping.rt`
 //!   for the order within a step.
@@ -13,30 +14,28 @@
 mod at_once;
 mod causes;
 mod change;
-mod faults;
-mod judging;
 mod lending;
 mod machine;
-mod needing;
 mod opening;
-mod reading;
+mod planning;
+mod read_sets;
 mod resuming;
-mod scene;
+mod roles;
 mod short_plans;
 mod space;
 mod start;
 mod stepping;
+mod store_reads;
 mod tables;
 mod traffic;
 mod world;
 mod writing;
 
-pub use faults::{Fault, FaultKind, FaultLine, Faults};
+pub use kt_model::StepError;
+pub use kt_scenario::{Fault, FaultKind, FaultLine, Faults, MAX_STEPS, Scene, Step};
 pub use kt_script::{
     Actual, Actuals, Command, MAX_COMMANDS, Name, Operation, Pattern, Script, ScriptError, Slot,
 };
-pub use kt_world::{MAX_STEPS, Step, StepError};
 pub use resuming::{ResumeError, ResumeRefused};
-pub use scene::Scene;
 pub use start::{Start, StartError, StartRefused};
 pub use world::{OpenError, OpenRefused, World};

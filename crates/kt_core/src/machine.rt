@@ -1,25 +1,26 @@
 //! All of a world but its store, and its step in parts: each growth is made before the first change.
+//! Cited by at_once.rt, lending.rt, planning.rt, read_sets.rt, resuming.rt, short_plans.rt, stepping.rt, world.rt.
 
 ghost use Rattle.std.specs.Prelude.{◌≡◌, ℕ, length, map, IfOk, IfSome, OnOk, OnErr, replicate, ◌*◌, []};
-ghost use Rattle.kt_world.specs.Limits.{rows};
-ghost use Rattle.kt_shard.specs.Limits.{desks};
-ghost use Rattle.kt_world.specs.Cast.{IsCast};
-ghost use Rattle.kt_world.specs.Short.{AreShort};
-ghost use Rattle.kt_core.specs.inner.Rows.{row_view};
-ghost use Rattle.kt_world.specs.Reached.{opening_rows};
-ghost use Rattle.kt_world.specs.Resumed.{down_rows};
+ghost use Rattle.kt_model.specs.Limits.{rows};
+ghost use Rattle.kt_shard.specs.Limits.{sessions};
+ghost use Rattle.kt_scenario.specs.Scene.{IsScene};
+ghost use Rattle.kt_model.specs.Short.{AreShort};
+ghost use Rattle.kt_core.specs.auxiliary.Rows.{row_view};
+ghost use Rattle.kt_model.specs.Reached.{opening_rows};
+ghost use Rattle.kt_model.specs.Resumed.{down_rows};
 
 use crate::change::{change_node, count, make_room_in_row};
 use crate::opening::{down_nodes, no_counts, opening_nodes, scripts_are_short};
-use crate::scene::Scene;
 use crate::traffic::{add_note, make_room_on_links, send_all, take_off};
 use kt_ckpt::Past;
 use kt_history::History;
 use kt_link::Links;
+use kt_model::{MAX_NOTES, MAX_STEPS, Step};
 use kt_node::{Message, Node, Plan};
+use kt_scenario::Scene;
 use kt_script::Script;
 use kt_tuple::NodeId;
-use kt_world::{MAX_NOTES, MAX_STEPS, Step};
 use std::alloc::{AllocError, Global};
 
 /// All of a world but its store.
@@ -49,8 +50,8 @@ type Tables = (Vec<Option<Node>>, Links<Message>, Vec<u64>);
 /// Those of a world that was just opened.
 fn opening_tables(alloc: Global, scene: &Scene, no_script: &Script) -> Result<Tables, AllocError>
     requires { no_script.now ≡ [] }
-    ensures cast { IsCast scene.now }
-    ensures nodes { IfOk result (λ t. map row_view t.0.items ≡ opening_rows scene.now desks) }
+    ensures scene { IsScene scene.now }
+    ensures nodes { IfOk result (λ t. map row_view t.0.items ≡ opening_rows scene.now sessions) }
     ensures workers { IfOk result (λ t. t.1.workers ≡ length scene.now.scripts) }
     ensures shards { IfOk result (λ t. t.1.shards ≡ scene.now.shards) }
     ensures links { IfOk result (λ t. t.1.queues ≡ replicate (2 * (length scene.now.scripts * scene.now.shards)) []) }
@@ -65,8 +66,8 @@ fn opening_tables(alloc: Global, scene: &Scene, no_script: &Script) -> Result<Ta
 
 /// Those of a world that was just resumed.
 fn resumed_tables(alloc: Global, scene: &Scene) -> Result<Tables, AllocError>
-    ensures cast { IsCast scene.now }
-    ensures nodes { IfOk result (λ t. map row_view t.0.items ≡ down_rows scene.now desks) }
+    ensures scene { IsScene scene.now }
+    ensures nodes { IfOk result (λ t. map row_view t.0.items ≡ down_rows scene.now sessions) }
     ensures workers { IfOk result (λ t. t.1.workers ≡ length scene.now.scripts) }
     ensures shards { IfOk result (λ t. t.1.shards ≡ scene.now.shards) }
     ensures links { IfOk result (λ t. t.1.queues ≡ replicate (2 * (length scene.now.scripts * scene.now.shards)) []) }
@@ -82,19 +83,19 @@ fn resumed_tables(alloc: Global, scene: &Scene) -> Result<Tables, AllocError>
 impl Machine {
     ghost use Rattle.std.specs.Prelude.{Ok, IfErr};
     ghost use Rattle.kt_store.specs.Content.{Content, empty_content};
-    ghost use Rattle.kt_world.specs.Step.{owner};
-    ghost use Rattle.kt_world.specs.Effect.{applied};
-    ghost use Rattle.kt_world.specs.Judge.{has_room};
-    ghost use Rattle.kt_world.specs.Writing.{content_after};
-    ghost use Rattle.kt_world.specs.inner.Ready.{IsReady, CanApply};
-    ghost use Rattle.kt_world.specs.Reached.{opening};
+    ghost use Rattle.kt_scenario.specs.Step.{owner};
+    ghost use Rattle.kt_model.specs.Effect.{applied};
+    ghost use Rattle.kt_model.specs.StepPlan.{has_room};
+    ghost use Rattle.kt_model.specs.Writing.{content_after};
+    ghost use Rattle.kt_model.specs.auxiliary.Ready.{IsReady, CanApply};
+    ghost use Rattle.kt_model.specs.Reached.{opening};
     ghost use Rattle.kt_core.specs.Resuming.{going_on};
-    ghost use Rattle.kt_core.specs.inner.Machine.{state_of, HasRoomFor};
+    ghost use Rattle.kt_core.specs.auxiliary.Machine.{state_of, HasRoomFor};
 
     /// The machine of the scene, in which nothing was done yet, or the scene where memory runs out.
     pub(crate) fn open(alloc: Global, scene: Scene) -> Result<Machine, Scene>
         ensures opened { IfOk result (λ m. state_of m empty_content ≡ opening scene) }
-        ensures cast { IsCast scene }
+        ensures scene { IsScene scene }
         ensures short { AreShort scene }
         ensures back { IfErr result (λ back. back ≡ scene) }
     {
@@ -124,7 +125,7 @@ impl Machine {
         found: u64,
     ) -> Result<Machine, Scene>
         ensures resumed { IfOk result (λ m. state_of m empty_content ≡ going_on scene history.notes found) }
-        ensures cast { IsCast scene }
+        ensures scene { IsScene scene }
         ensures short { AreShort scene }
         ensures back { IfErr result (λ back. back ≡ scene) }
     {
@@ -144,7 +145,8 @@ impl Machine {
         }
     }
 
-    /// Whether one step more may be made: fewer than `MAX_STEPS` were, and the history has fewer than `MAX_NOTES` notes.
+    /// Whether one step more may be made: fewer than `MAX_STEPS` were, and the history has fewer than `MAX_NOTES`
+    /// notes.
     pub(crate) fn has_room(&self) -> bool
         ensures { result ≡ has_room (state_of self.now empty_content) }
     {

@@ -1,23 +1,25 @@
 //! The tables of a world that was just opened or resumed.
+//! Cited by machine.rt.
 
 ghost use Rattle.std.specs.Prelude.{◌≡◌, ℕ, map, [], IfOk, IfSome, replicate, slice_get};
-ghost use Rattle.kt_world.specs.Limits.{rows};
-ghost use Rattle.kt_shard.specs.Limits.{desks};
-ghost use Rattle.kt_core.specs.inner.Rows.{row_view};
-ghost use Rattle.kt_world.specs.Reached.{opening_row, opening_rows};
-ghost use Rattle.kt_world.specs.Resumed.{down_row, down_rows};
-ghost use Rattle.kt_world.specs.Short.{IsShort};
+ghost use Rattle.kt_model.specs.Limits.{rows};
+ghost use Rattle.kt_shard.specs.Limits.{sessions};
+ghost use Rattle.kt_core.specs.auxiliary.Rows.{row_view};
+ghost use Rattle.kt_model.specs.Reached.{opening_row, opening_rows};
+ghost use Rattle.kt_model.specs.Resumed.{down_row, down_rows};
+ghost use Rattle.kt_model.specs.Short.{IsShort};
 
-use crate::scene::Scene;
+use crate::roles::role_in;
 use kt_node::Node;
+use kt_scenario::Scene;
 use kt_script::Script;
-use kt_shard::DESKS;
+use kt_shard::SESSIONS;
 use kt_tuple::NodeId;
 use std::alloc::{AllocError, Global};
 
-/// How many rows a table of nodes has: one for each number of a worker and for each of a shard, and as many desks has a
-/// shard as workers have numbers.
-const ROWS: usize = 2 * DESKS as usize;
+/// How many rows a table of nodes has: one for each number of a worker and for each of a shard, and as many sessions
+/// has a shard as workers have numbers.
+const ROWS: usize = 2 * SESSIONS as usize;
 
 /// The row of the node, which is empty where the scene has no such node.
 fn row(
@@ -29,7 +31,7 @@ fn row(
     requires { no_script.now ≡ [] }
     ensures { IfOk result (λ row. row_view row ≡ opening_row scene.now id) }
 {
-    match scene.role(no_script, id) {
+    match role_in(scene, no_script, id) {
         Some(role) => Ok(Some(Node::open(alloc, role)?)),
         None => Ok(None),
     }
@@ -42,10 +44,10 @@ pub(crate) fn opening_nodes(
     no_script: &Script,
 ) -> Result<Vec<Option<Node>>, AllocError>
     requires { no_script.now ≡ [] }
-    ensures { IfOk result (λ nodes. map row_view nodes.items ≡ opening_rows scene.now desks) }
+    ensures { IfOk result (λ nodes. map row_view nodes.items ≡ opening_rows scene.now sessions) }
 {
     let mut nodes = Vec::with_capacity(alloc, ROWS)?;
-    for number in 0..DESKS {
+    for number in 0..SESSIONS {
         let worker = row(alloc, scene, no_script, NodeId::Worker(number))?;
         let shard = row(alloc, scene, no_script, NodeId::Shard(number))?;
         nodes.push(worker)?;
@@ -67,10 +69,10 @@ fn down_row(scene: &Scene, id: NodeId) -> Option<Node>
 
 /// The table of nodes as in `opening_nodes`, where each is down.
 pub(crate) fn down_nodes(alloc: Global, scene: &Scene) -> Result<Vec<Option<Node>>, AllocError>
-    ensures { IfOk result (λ nodes. map row_view nodes.items ≡ down_rows scene.now desks) }
+    ensures { IfOk result (λ nodes. map row_view nodes.items ≡ down_rows scene.now sessions) }
 {
     let mut nodes = Vec::with_capacity(alloc, ROWS)?;
-    for number in 0..DESKS {
+    for number in 0..SESSIONS {
         nodes.push(down_row(scene, NodeId::Worker(number)))?;
         nodes.push(down_row(scene, NodeId::Shard(number)))?;
     }

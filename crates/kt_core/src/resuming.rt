@@ -1,24 +1,26 @@
 //! How a world goes on from what a store holds.
+//! Cited by start.rt; kt_command, kt_scene, kt_stage, linda_kt.
 
 ghost use Rattle.std.specs.Prelude.{◌≡◌, All, IfErr, IfOk, IsTrue, OnOk};
 ghost use Rattle.kt_store.specs.Calls.{NeverFails};
-ghost use Rattle.kt_world.specs.Resumed.{AreFit, history_of, resumed};
+ghost use Rattle.kt_model.specs.Resumed.{AreFit, history_of, resumed};
 ghost use Rattle.kt_resume.specs.Found.{content_of};
 ghost use Rattle.kt_resume.specs.Judging.{IsGood};
 ghost use Rattle.kt_core.specs.declared.resuming.ResumeError.TheVariants as refusals;
-ghost use Rattle.kt_core.specs.inner.Calls.{IsRead};
-ghost use Rattle.kt_core.specs.inner.Gathering.{AreAllFound, IsFoundUnfit, IsGatheredBy, IsOfContent, IsOfSome, IsUnjudged};
-ghost use Rattle.kt_core.specs.inner.Gathering.{found_in, instance_in};
-ghost use Rattle.kt_core.specs.inner.Machine.{state_of};
+ghost use Rattle.kt_core.specs.auxiliary.Calls.{IsRead};
+ghost use Rattle.kt_core.specs.auxiliary.Gathering.{AreAllFound, IsFoundUnfit, IsGatheredBy, IsOfContent, IsOfSome};
+ghost use Rattle.kt_core.specs.auxiliary.Gathering.{IsUnjudged};
+ghost use Rattle.kt_core.specs.auxiliary.Gathering.{found_in, instance_in};
+ghost use Rattle.kt_core.specs.auxiliary.Machine.{state_of};
 ghost use Rattle.kt_core.specs.Resuming.{IsFirstUnfit, resuming_counted};
 
 use crate::machine::Machine;
-use crate::scene::Scene;
 use crate::space::tentative_of;
 use crate::world::World;
 use kt_history::History;
 use kt_resume::{Found, first_unfit, history_of};
-use kt_store::{CkptStore, StoreError, TentativeMarks, Verdict};
+use kt_scenario::Scene;
+use kt_store::{CkptStore, StoreError, TentativeHeader, Verdict};
 use kt_tuple::NodeId;
 use std::alloc::{AllocError, Global};
 use thiserror::Error;
@@ -79,8 +81,8 @@ fn instance_of<S: CkptStore>(
 ) -> Result<Option<u64>, StoreError>
     ensures { IsRead S.CkptStore store.old store.new (λ c i. i ≡ instance_in c node) result }
 {
-    match store.tentative_marks(alloc, node)? {
-        Some(TentativeMarks { instance, .. }) => Ok(Some(instance)),
+    match store.tentative_header(alloc, node)? {
+        Some(TentativeHeader { instance, .. }) => Ok(Some(instance)),
         None => Ok(None),
     }
 }
@@ -103,7 +105,7 @@ fn find<S: CkptStore>(store: &mut S, alloc: Global, node: NodeId) -> Result<Foun
         node,
         incarnation,
         checkpoint,
-        is_posted: !matches!(verdict, Some(None)),
+        has_instance_row: !matches!(verdict, Some(None)),
     })
 }
 
@@ -157,7 +159,7 @@ fn gather<S: CkptStore>(
 
 impl<S: CkptStore> World<S> {
     ghost use Rattle.kt_tuple.specs.declared.node.NodeId.{NodeId};
-    ghost use Rattle.kt_world.specs.Headline.{Headline};
+    ghost use Rattle.kt_model.specs.Headline.{Headline};
     ghost use Rattle.kt_core.specs.Resuming.{GoesOn, IsResumeCause};
 
     /// The world of the scene that goes on from what the store holds, after the program was stopped: every node is

@@ -1,23 +1,24 @@
 //! The frequent steps of workers and shards: found out by a short plan, given room, and made. The plan of the step
 //! says what comes of it.
+//! Cited by stepping.rt.
 
 ghost use Rattle.std.specs.Prelude.{◌≡◌, IfOk, IfSome, IsOk, IsTrue, Ok, OnErr, OnOk, false};
 ghost use Rattle.kt_node.specs.ShortPlan.{plan_of};
 ghost use Rattle.kt_store.specs.Content.{Content, empty_content};
-ghost use Rattle.kt_world.specs.declared.step.Step.TheVariants as steps;
-ghost use Rattle.kt_world.specs.Effect.{applied, step_result};
-ghost use Rattle.kt_world.specs.Judge.{planned};
-ghost use Rattle.kt_world.specs.Step.{owner};
-ghost use Rattle.kt_world.specs.inner.Ready.{CanApply, IsReady};
-ghost use Rattle.kt_core.specs.inner.Machine.{HasRoomFor, state_of};
+ghost use Rattle.kt_scenario.specs.declared.step.Step.TheVariants as steps;
+ghost use Rattle.kt_model.specs.Effect.{applied, step_result};
+ghost use Rattle.kt_model.specs.StepPlan.{step_plan};
+ghost use Rattle.kt_scenario.specs.Step.{owner};
+ghost use Rattle.kt_model.specs.auxiliary.Ready.{CanApply, IsReady};
+ghost use Rattle.kt_core.specs.auxiliary.Machine.{HasRoomFor, state_of};
 
 use crate::causes::cause_of_waiting;
-use crate::change::{count, make_room_in_row, turn_in_row};
+use crate::change::{count, make_room_in_row, update_in_row};
 use crate::machine::Machine;
 use crate::traffic::{add_note, make_room_on_link, send_if_any, take_off};
+use kt_model::Step;
 use kt_node::{Message, ShortPlan};
 use kt_tuple::NodeId;
-use kt_world::Step;
 use std::alloc::{AllocError, Global};
 
 impl Machine {
@@ -25,8 +26,8 @@ impl Machine {
     fn short_issue(&self, alloc: Global, node: NodeId) -> Result<Option<ShortPlan>, AllocError>
         requires { IsReady (state_of self.now empty_content) }
         ensures plan { IfOk result (λ o. IfSome o (λ e. (c : Content) →
-            planned (state_of self.now c) (steps.Issue node) ≡ Ok (plan_of e))) }
-        ensures enabled { OnErr result ((c : Content) → IsOk (planned (state_of self.now c) (steps.Issue node))) }
+            step_plan (state_of self.now c) (steps.Issue node) ≡ Ok (plan_of e))) }
+        ensures enabled { OnErr result ((c : Content) → IsOk (step_plan (state_of self.now c) (steps.Issue node))) }
     {
         if !self.scene.has_worker(node) || !self.has_room() {
             return Ok(None);
@@ -47,18 +48,18 @@ impl Machine {
     ) -> Result<Option<ShortPlan>, AllocError>
         requires { IsReady (state_of self.now empty_content) }
         ensures plan { IfOk result (λ o. IfSome o (λ e. (c : Content) →
-            planned (state_of self.now c) (steps.Deliver from to) ≡ Ok (plan_of e))) }
+            step_plan (state_of self.now c) (steps.Deliver from to) ≡ Ok (plan_of e))) }
         ensures enabled { OnErr result ((c : Content) →
-            IsOk (planned (state_of self.now c) (steps.Deliver from to))) }
+            IsOk (step_plan (state_of self.now c) (steps.Deliver from to))) }
     {
         if !self.scene.are_neighbours(from, to) || !self.has_room() {
             return Ok(None);
         }
-        let Some(Message::Post(post)) = self.links.front(from, to) else {
+        let Some(Message::App(app)) = self.links.front(from, to) else {
             return Ok(None);
         };
         match self.seen(to) {
-            Ok(seen) => seen.short_hear(alloc, from, post),
+            Ok(seen) => seen.short_hear(alloc, from, app),
             Err(_) => Ok(None),
         }
     }
@@ -73,9 +74,9 @@ impl Machine {
     ) -> Result<Option<ShortPlan>, AllocError>
         requires { IsReady (state_of self.now empty_content) }
         ensures plan { IfOk result (λ o. IfSome o (λ e. (c : Content) →
-            planned (state_of self.now c) (steps.Serve shard worker place) ≡ Ok (plan_of e))) }
+            step_plan (state_of self.now c) (steps.Serve shard worker place) ≡ Ok (plan_of e))) }
         ensures enabled { OnErr result ((c : Content) →
-            IsOk (planned (state_of self.now c) (steps.Serve shard worker place))) }
+            IsOk (step_plan (state_of self.now c) (steps.Serve shard worker place))) }
     {
         let step = Step::Serve {
             shard,
@@ -100,8 +101,8 @@ impl Machine {
     fn short(&self, alloc: Global, step: Step) -> Result<Option<ShortPlan>, AllocError>
         requires { IsReady (state_of self.now empty_content) }
         ensures plan { IfOk result (λ o. IfSome o (λ e. (c : Content) →
-            planned (state_of self.now c) step ≡ Ok (plan_of e))) }
-        ensures enabled { OnErr result ((c : Content) → IsOk (planned (state_of self.now c) step)) }
+            step_plan (state_of self.now c) step ≡ Ok (plan_of e))) }
+        ensures enabled { OnErr result ((c : Content) → IsOk (step_plan (state_of self.now c) step)) }
     {
         match step {
             Step::Issue { node } => self.short_issue(alloc, node),
@@ -134,13 +135,13 @@ impl Machine {
         requires room { HasRoomFor self.old (owner step) (plan_of short) }
         ensures { (c : Content) → state_of self.new c ≡ applied (state_of self.old c) step (plan_of short) }
     {
-        let ShortPlan { turn, send, note } = short;
+        let ShortPlan { update, send, note } = short;
         let owner = step.owner();
         let row = owner.index();
         take_off(&mut self.links, step);
         send_if_any(&mut self.links, owner, send);
         add_note(&mut self.past, note);
-        turn_in_row(&mut self.nodes, row, turn);
+        update_in_row(&mut self.nodes, row, update);
         count(&mut self.own, row);
         self.made += 1;
     }
@@ -166,7 +167,7 @@ impl Machine {
             step_result (state_of self.old c) step ≡ Ok (state_of self.new c)) }
         ensures left { IfOk result (λ made. made ≡ false → self.new ≡ self.old) }
         ensures same { OnErr result ((c : Content) → state_of self.new c ≡ state_of self.old c) }
-        ensures enabled { OnErr result ((c : Content) → IsOk (planned (state_of self.old c) step)) }
+        ensures enabled { OnErr result ((c : Content) → IsOk (step_plan (state_of self.old c) step)) }
     {
         let Some(short) = self.short(alloc, step)? else {
             return Ok(false);
@@ -183,7 +184,7 @@ impl Machine {
             step_result (state_of self.old c) step ≡ Ok (state_of self.new c)) }
         ensures left { IfOk result (λ made. made ≡ false → self.new ≡ self.old) }
         ensures same { OnErr result ((c : Content) → state_of self.new c ≡ state_of self.old c) }
-        ensures enabled { OnErr result ((c : Content) → IsOk (planned (state_of self.old c) step)) }
+        ensures enabled { OnErr result ((c : Content) → IsOk (step_plan (state_of self.old c) step)) }
     {
         match step {
             Step::Repeat { node } => self.repeat_at_once(alloc, node),

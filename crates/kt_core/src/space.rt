@@ -1,14 +1,15 @@
 //! The space of the permanent checkpoints.
+//! Cited by resuming.rt, world.rt.
 
 ghost use Rattle.std.specs.Prelude.{◌≡◌, ◌++◌, IfOk};
 ghost use Rattle.std.specs.List.{flat_map, range_with_len};
 ghost use Rattle.kt_tuple.specs.declared.node.NodeId.TheVariants as ids;
-ghost use Rattle.kt_world.specs.Cut.{permanent_of, tuples_of};
-ghost use Rattle.kt_core.specs.inner.Space.{counts_in, taken_by};
-ghost use Rattle.kt_core.specs.inner.Calls.{IsGathered, IsRead};
+ghost use Rattle.kt_model.specs.Cut.{permanent_of, tuples_of};
+ghost use Rattle.kt_core.specs.auxiliary.Space.{counts_in, taken_by};
+ghost use Rattle.kt_core.specs.auxiliary.Calls.{IsGathered, IsRead};
 
 use kt_ckpt::{Ckpt, State};
-use kt_store::{CkptStore, StoreError, Tentative, TentativeMarks, Verdict};
+use kt_store::{CkptStore, StoreError, Tentative, TentativeHeader, Verdict};
 use kt_tuple::{NodeId, Tuple, copy_tuples};
 use std::alloc::{AllocError, Global};
 
@@ -17,8 +18,8 @@ fn counts<S: CkptStore>(store: &mut S, alloc: Global, node: NodeId) -> Result<bo
     ensures { IsRead S.CkptStore store.old store.new
         (λ c counts. counts ≡ counts_in c node) result }
 {
-    match store.tentative_marks(alloc, node)? {
-        Some(TentativeMarks { instance, .. }) => {
+    match store.tentative_header(alloc, node)? {
+        Some(TentativeHeader { instance, .. }) => {
             Ok(matches!(store.verdict(instance)?, Some(Verdict::Yes)))
         }
         None => Ok(false),

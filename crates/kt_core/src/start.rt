@@ -1,4 +1,5 @@
 //! The two ways in which a world begins over its store.
+//! Cited by kt_command, kt_quick, kt_run, kt_scene, kt_stage.
 
 ghost use Rattle.std.specs.Prelude.{◌≡◌, IfErr, IfOk, IsTrue};
 ghost use Rattle.kt_store.specs.Calls.{NeverFails};
@@ -6,8 +7,8 @@ ghost use Rattle.kt_core.specs.Store.{store_value};
 ghost use Rattle.kt_core.specs.Starting.{Begins, IsErrorOf, IsUnbegun};
 
 use crate::resuming::{ResumeError, ResumeRefused};
-use crate::scene::Scene;
 use crate::world::{OpenError, OpenRefused, World};
+use kt_scenario::Scene;
 use kt_store::CkptStore;
 use std::alloc::Global;
 

@@ -1,14 +1,15 @@
 //! What the table of nodes says of them.
+//! Cited by world.rt.
 
 ghost use Rattle.std.specs.Prelude.{◌≡◌, None, map};
 ghost use Rattle.std.specs.List.{list_all};
 ghost use Rattle.std.specs.Option.{option_map};
-ghost use Rattle.kt_core.specs.inner.Rows.{row_view};
+ghost use Rattle.kt_core.specs.auxiliary.Rows.{row_view};
 ghost use Rattle.kt_shard.specs.Table.{at};
 ghost use Rattle.kt_tuple.specs.Node.{node_index};
 ghost use Rattle.kt_tuple.specs.declared.node.NodeId.TheVariants as ids;
-ghost use Rattle.kt_core.specs.inner.Rows.{is_steady_code};
-ghost use Rattle.kt_world.specs.Headline.{lent_by};
+ghost use Rattle.kt_core.specs.auxiliary.Rows.{is_steady_code};
+ghost use Rattle.kt_model.specs.Headline.{lent_by};
 
 use kt_node::{Mode, Node};
 use kt_space::Bag;

@@ -1,19 +1,20 @@
 //! The messages that a step sends, takes off and makes room for, and its note.
+//! Cited by at_once.rt, machine.rt, short_plans.rt.
 
 ghost use Rattle.std.specs.Prelude.{◌≡◌, ◌≤◌, ◌∷◌, [], length, option_to_list, OnOk, IfSome};
 ghost use Rattle.std.specs.List.{AllByRecursion};
 ghost use Rattle.kt_history.specs.Chronicle.{node_of, room_of};
 ghost use Rattle.kt_history.specs.WellFormed.{MayFollow};
 ghost use Rattle.kt_link.specs.Network.{AreNeighbours, place, room};
-ghost use Rattle.kt_world.specs.Effect.{sent, taken_off, noted};
-ghost use Rattle.kt_core.specs.inner.Traffic.{IsSameTraffic};
+ghost use Rattle.kt_model.specs.Effect.{sent, taken_off, noted};
+ghost use Rattle.kt_core.specs.auxiliary.Traffic.{IsSameTraffic};
 
 use kt_ckpt::Past;
 use kt_history::Note;
 use kt_link::Links;
+use kt_model::Step;
 use kt_node::Message;
 use kt_tuple::NodeId;
-use kt_world::Step;
 use std::alloc::AllocError;
 
 /// Makes room on the links for these messages of the owner.

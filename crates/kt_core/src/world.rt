@@ -1,4 +1,5 @@
 //! The world: what its callers see of it, and its step.
+//! Cited by resuming.rt, start.rt; kt_command, kt_memory_tests, kt_scene, kt_stage, linda_kt.
 
 ghost use Rattle.std.specs.Prelude.{◌≡◌, ◌≢◌, ◌↔◌, ◌+◌, false, true, is_some, length, map, slice_get};
 ghost use Rattle.std.specs.Prelude.{IfErr, IfOk, IsTrue, Ok, OnErr, OnOk};
@@ -8,22 +9,22 @@ ghost use Rattle.kt_tuple.specs.Node.{node_index};
 ghost use Rattle.kt_shard.specs.Table.{at};
 ghost use Rattle.kt_core.specs.declared.world.OpenError.TheVariants as opened;
 
-use crate::judging::is_refused;
 use crate::machine::Machine;
-use crate::reading::tell;
-use crate::scene::Scene;
+use crate::planning::is_refused;
 use crate::space::permanent_tuples;
 use crate::stepping::make;
+use crate::store_reads::read_store;
 use crate::tables::{are_steady, bag_at};
 use kt_history::History;
-use kt_node::{Message, Mode, Post};
+use kt_model::{Step, StepError};
+use kt_node::{AppMessage, Message, Mode};
+use kt_scenario::Scene;
 use kt_shard::Shard;
 use kt_space::Bag;
 use kt_store::{CkptStore, StoreError};
 use kt_tuple::{MAX_SHARDS, NodeId, Tuple};
 use kt_vote::Ballot;
 use kt_worker::Worker;
-use kt_world::{Step, StepError};
 use std::alloc::{AllocError, Global};
 use std::marker::Model;
 use thiserror::Error;
@@ -63,11 +64,11 @@ pub struct World<S: CkptStore> {
 }
 
 impl<S: CkptStore> Model for World<S> {
-    ghost use Rattle.kt_core.specs.inner.Machine.{state_of};
-    ghost use Rattle.kt_core.specs.World.{Standing};
-    ghost use Rattle.kt_core.specs.inner.Kept.{IsWorld};
+    ghost use Rattle.kt_core.specs.auxiliary.Machine.{state_of};
+    ghost use Rattle.kt_core.specs.World.{WorldModel};
+    ghost use Rattle.kt_core.specs.auxiliary.Kept.{IsWorld};
 
-    ghost Value = { Standing };
+    ghost Value = { WorldModel };
 
     ghost view = { λ w. record {
       state = state_of w.machine (S.content w.store);
@@ -84,17 +85,17 @@ impl<S: CkptStore> World<S> {
     ghost use Rattle.kt_core.specs.Store.{IsCountedBeside, IsFault};
     ghost use Rattle.kt_core.specs.World.{IsOpenCause, beside, opening_counted};
     ghost use Rattle.kt_store.specs.Calls.{NeverFails, counted};
-    ghost use Rattle.kt_world.specs.Cast.{is_node};
-    ghost use Rattle.kt_world.specs.Effect.{step_result};
-    ghost use Rattle.kt_world.specs.Cut.{permanent_tuples};
-    ghost use Rattle.kt_world.specs.Forced.{IsForced};
-    ghost use Rattle.kt_world.specs.Headline.{Headline, IsNoted, is_steady, lent_bags};
-    ghost use Rattle.kt_world.specs.Judge.{is_enabled, planned};
-    ghost use Rattle.kt_world.specs.Needs.{needs_of, no_needs, poll_at};
-    ghost use Rattle.kt_world.specs.Reached.{IsReached, opening};
-    ghost use Rattle.kt_world.specs.Resumed.{AreFit};
-    ghost use Rattle.kt_world.specs.State.{link, node};
-    ghost use Rattle.kt_node.specs.Node.{mode_of};
+    ghost use Rattle.kt_scenario.specs.Scene.{is_node};
+    ghost use Rattle.kt_model.specs.Effect.{step_result};
+    ghost use Rattle.kt_model.specs.Cut.{permanent_tuples};
+    ghost use Rattle.kt_model.specs.Forced.{IsForced};
+    ghost use Rattle.kt_model.specs.Headline.{Headline, IsNoted, is_steady, lent_bags};
+    ghost use Rattle.kt_model.specs.StepPlan.{is_enabled, step_plan};
+    ghost use Rattle.kt_model.specs.ReadSet.{read_set_of, empty_read_set, poll_at};
+    ghost use Rattle.kt_model.specs.Reached.{IsReached, opening};
+    ghost use Rattle.kt_model.specs.Resumed.{AreFit};
+    ghost use Rattle.kt_model.specs.State.{link, node};
+    ghost use Rattle.kt_state.specs.Node.{mode_of};
 
     /// The world of the scene over a store on which nothing was ever stored. Where it is refused, scene and store come
     /// back, and the store holds what it held.
@@ -158,7 +159,7 @@ impl<S: CkptStore> World<S> {
     }
 
     /// Makes the step. It makes a node that is up roll back, or take a checkpoint that it did not begin, only where
-    /// that has to be (`IsForced`). It notes one thing at most, and cuts no line but its owner's (`IsNoted`). What it
+    /// that has to be (`IsForced`). It notes one thing at most, and cuts no log but its owner's (`IsNoted`). What it
     /// leaves in the store fits the scene (`AreFit`), so that a world can go on from there. A refused step changes
     /// nothing. Of several refusals the first that stands comes. A refusal of the store comes before all that the store
     /// would have told, and only of a step for which it is called. `OutOfMemory` comes only of a step that is enabled.
@@ -166,8 +167,8 @@ impl<S: CkptStore> World<S> {
         ensures effect { IsTrue self.new.is_honest → OnOk result (step_result self.old.state step ≡ Ok self.new.state) }
         ensures by_plan { OnOk result (IsByPlan self.old.state step self.new.state) }
         ensures made { OnOk result (self.new.state.made ≡ self.old.state.made + 1) }
-        ensures scene { OnOk result (self.new.state.cast ≡ self.old.state.cast) }
-        ensures refusal { IsTrue self.new.is_honest → IfErr result (λ e. Refuses e (planned self.old.state step)) }
+        ensures scene { OnOk result (self.new.state.scene ≡ self.old.state.scene) }
+        ensures refusal { IsTrue self.new.is_honest → IfErr result (λ e. Refuses e (step_plan self.old.state step)) }
         ensures same { IsTrue self.new.is_honest → OnErr result (self.new.state ≡ self.old.state) }
         ensures beside { OnErr result (beside self.new.state ≡ beside self.old.state) }
         ensures honest { IsTrue self.new.is_honest → IsTrue self.old.is_honest }
@@ -178,7 +179,7 @@ impl<S: CkptStore> World<S> {
         ensures headline { IsTrue self.new.is_honest → Headline self.new.state }
         ensures forced { IsTrue self.new.is_honest → OnOk result (IsForced self.old.state step self.new.state) }
         ensures noted { IsTrue self.new.is_honest → OnOk result (IsNoted self.old.state step self.new.state) }
-        ensures fits { IsTrue self.new.is_honest → AreFit self.new.state.cast self.new.state.content }
+        ensures fits { IsTrue self.new.is_honest → AreFit self.new.state.scene self.new.state.content }
     {
         make(&mut self.machine, &mut self.store, alloc, step)
     }
@@ -194,12 +195,12 @@ impl<S: CkptStore> World<S> {
         ensures lasts { NeverFails S.failures → IsTrue self.old.is_honest → IsTrue self.new.is_honest }
         ensures counts { self.new.counts ≡ counted result self.old.counts }
         ensures cause { IfErr result (IsFault self.new.is_honest) }
-        ensures called { OnErr result (needs_of self.old.state step ≢ no_needs) }
+        ensures called { OnErr result (read_set_of self.old.state step ≢ empty_read_set) }
     {
-        let needs = self.machine.needs(step);
-        let told = tell(&mut self.store, alloc, step.owner(), needs)?;
-        let planned = self.machine.plan(alloc, told, step);
-        Ok(!is_refused(&planned))
+        let read_set = self.machine.read_set(step);
+        let store_reads = read_store(&mut self.store, alloc, step.owner(), read_set)?;
+        let step_plan = self.machine.plan(alloc, store_reads, step);
+        Ok(!is_refused(&step_plan))
     }
 
     /// Whether the step is enabled, the limit of steps left aside: nothing but the limit, the store or want of memory
@@ -213,12 +214,12 @@ impl<S: CkptStore> World<S> {
         ensures lasts { NeverFails S.failures → IsTrue self.old.is_honest → IsTrue self.new.is_honest }
         ensures counts { self.new.counts ≡ counted result self.old.counts }
         ensures cause { IfErr result (IsFault self.new.is_honest) }
-        ensures called { OnErr result (needs_of self.old.state step ≢ no_needs) }
+        ensures called { OnErr result (read_set_of self.old.state step ≢ empty_read_set) }
     {
-        let needs = self.machine.needs(step);
-        let told = tell(&mut self.store, alloc, step.owner(), needs)?;
-        let judged = self.machine.judged(alloc, told, step);
-        Ok(!is_refused(&judged))
+        let read_set = self.machine.read_set(step);
+        let store_reads = read_store(&mut self.store, alloc, step.owner(), read_set)?;
+        let unlimited_plan = self.machine.unlimited_plan(alloc, store_reads, step);
+        Ok(!is_refused(&unlimited_plan))
     }
 
     /// What happened so far: a note for each act and each cut, in order.
@@ -254,15 +255,15 @@ impl<S: CkptStore> World<S> {
 
     /// The scene that it was opened with.
     pub fn scene(&self) -> &Scene
-        ensures { result.now ≡ self.now.state.cast }
+        ensures { result.now ≡ self.now.state.scene }
     {
         &self.machine.scene
     }
 
     /// How many steps of its own the node made, 0 for a node that is not in the scene.
     pub fn steps_of(&self, id: NodeId) -> u64
-        ensures value { IsTrue (is_node self.now.state.cast id) → result ≡ at 0 self.now.state.own (node_index id) }
-        ensures absent { is_node self.now.state.cast id ≡ false → result ≡ 0 }
+        ensures value { IsTrue (is_node self.now.state.scene id) → result ≡ at 0 self.now.state.own (node_index id) }
+        ensures absent { is_node self.now.state.scene id ≡ false → result ≡ 0 }
     {
         if !self.machine.scene.has(id) {
             return 0;
@@ -276,7 +277,7 @@ impl<S: CkptStore> World<S> {
     /// What mode the node is in, `None` for a node that is not in the scene.
     pub fn mode(&self, id: NodeId) -> Option<Mode>
         ensures value { result ≡ option_map mode_of (node self.now.state id) }
-        ensures there { is_some result ≡ is_node self.now.state.cast id }
+        ensures there { is_some result ≡ is_node self.now.state.scene id }
     {
         Some(self.machine.node_at(id)?.mode())
     }
@@ -298,7 +299,7 @@ impl<S: CkptStore> World<S> {
 
     /// Of the messages that the node keeps back the one at this place, counted from 0, and who sent it; `None` past the
     /// last, and for a node that is down or not in the scene.
-    pub fn kept_at(&self, id: NodeId, index: usize) -> Option<&(NodeId, Post)>
+    pub fn kept_at(&self, id: NodeId, index: usize) -> Option<&(NodeId, AppMessage)>
         ensures { option_copied result ≡ slice_get (kept self.now.state id) index }
     {
         self.machine.kept_at(id, index)

@@ -1,9 +1,10 @@
 //! The write of a plan.
+//! Cited by stepping.rt.
 
 ghost use Rattle.std.specs.Prelude.{◌≡◌, IfSome, IsOk, IsTrue, None};
-ghost use Rattle.kt_world.specs.inner.Backed.{IsAllowed};
-ghost use Rattle.kt_world.specs.Writing.{content_after};
-ghost use Rattle.kt_core.specs.inner.Calls.{IsWritten};
+ghost use Rattle.kt_model.specs.auxiliary.Backed.{IsAllowed};
+ghost use Rattle.kt_model.specs.Writing.{content_after};
+ghost use Rattle.kt_core.specs.auxiliary.Calls.{IsWritten};
 
 use kt_node::Write;
 use kt_store::{CkptStore, StoreError};

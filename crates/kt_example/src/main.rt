@@ -2,19 +2,19 @@
 //! the shard fails. So the second rolls back, takes the task again, and says which one it has done.
 //!
 //! What is proved beside: the store stays honest, whatever the steps do, as nothing can fail one in memory. So the laws
-//! of kt_world hold of this world after each step, here that each worker stands in its script where the answers in its
+//! of kt_model hold of this world after each step, here that each worker stands in its script where the answers in its
 //! log say.
 #![tactic(auto)]
 
 ghost use Rattle.std.specs.Prelude.{IfOk, IsTrue};
-ghost use Rattle.kt_world.specs.Workers.{WorkersFollowLines};
+ghost use Rattle.kt_model.specs.Workers.{WorkersFollowLogs};
 
 use kt_core::{Scene, Step, World};
 use kt_history::History;
+use kt_model::workers_stand_as_their_answers_say;
 use kt_script::{Actual, Actuals, Command, Name, Operation, Pattern, Script, Slot};
 use kt_store::MemStore;
 use kt_tuple::{Kind, NodeId, Str, Value};
-use kt_world::workers_stand_as_their_answers_say;
 use std::alloc::Global;
 use std::test::Fail;
 
@@ -113,7 +113,7 @@ fn deliver((from, to): (NodeId, NodeId)) -> Step {
 /// workers stand.
 fn history_of(world: &World<MemStore>) -> &History
     requires { IsTrue world.now.is_honest }
-    ensures follow { WorkersFollowLines world.now.state }
+    ensures follow { WorkersFollowLogs world.now.state }
 {
     workers_stand_as_their_answers_say();
     world.history()

@@ -1,4 +1,5 @@
 -- Services counted and listed by the marks.
+-- Cited by `History::add_act`, `History::lost_count`, `History::survivors`.
 use Rattle.std.proofs.Common.{◌≡◌, ℕ, suc, ◌+◌, ◌<◌, ◌≤◌, ◌&&◌, not, Bool, true, false, cond, List, [], ◌∷◌}
 use Rattle.std.proofs.Common.{◌++◌, take, length, get_or, Option, None, Some, refl, sym, ap, ◌∙◌, arith, add-zero}
 use Rattle.std.specs.List.{cons_option}
@@ -13,7 +14,7 @@ use Rattle.kt_history.specs.declared.note.Note.{Note}
 use Rattle.kt_history.specs.declared.note.Note.TheVariants as notes
 use Rattle.kt_history.specs.declared.mark.Mark.{Mark}
 use Rattle.kt_history.specs.Survival.{survives, service_of, services_of, marked_from, marked_acts, lost_count, note_service, is_served}
-use Rattle.kt_history.specs.inner.Marks.{mark_at, lost_among, Agrees}
+use Rattle.kt_history.specs.auxiliary.Marks.{mark_at, lost_among, Agrees}
 use Rattle.kt_history.proofs.Fronts.{marked_from-append}
 use Rattle.kt_history.proofs.MarkSteps.{lost_among-at_most}
 

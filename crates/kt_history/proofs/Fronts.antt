@@ -1,4 +1,6 @@
--- A closed choice of acts is, of each node's acts, a front of its line.
+-- A closed choice of acts is, of each node's acts, a front of its log.
+-- Cited by Counts, `laws::closed_choices_are_fronts`, `laws::survivors_are_fronts`; kt_ckpt, kt_logs, kt_model,
+--   kt_resume.
 use Rattle.std.proofs.Common.{◌≡◌, ℕ, zero, suc, ◌+◌, ◌<◌, ◌≤◌, Bool, true, false, cond, List, [], ◌∷◌, ◌++◌}
 use Rattle.std.proofs.Common.{take, length, Some, refl, sym, ap, ◌∙◌, subst, inl, inr, arith, Contains, add-zero}
 use Rattle.std.specs.List.{slice_get, cons_option}
@@ -11,14 +13,14 @@ use Rattle.kt_tuple.specs.declared.node.NodeId.{NodeId}
 use Rattle.kt_history.specs.declared.note.Act.{Act}
 use Rattle.kt_history.specs.declared.note.Note.{Note}
 use Rattle.kt_history.specs.declared.note.Note.TheVariants as notes
-use Rattle.kt_history.specs.Line.{note_at, before, IsAct, same_node, line}
+use Rattle.kt_history.specs.Log.{note_at, before, IsAct, same_node, log}
 use Rattle.kt_history.specs.Past.{StoodBefore}
 use Rattle.kt_history.specs.Survival.{marked_from, marked_acts}
-use Rattle.kt_history.specs.Closed.{IsClosed, IsFront, act_of, acts_at, acts_in_line, own}
+use Rattle.kt_history.specs.Closed.{IsClosed, IsFront, act_of, acts_at, acts_in_log, own}
 use Rattle.kt_history.proofs.Lists.{snoc_ind, slice_get-append_right, slice_get-from_Contains}
 use Rattle.kt_history.proofs.Lists.{Contains-from_slice_get, Contains-none, Contains-here, Contains-there}
-use Rattle.kt_history.proofs.Lines.{same_node-true, same_node-refl, line-own, line-stack, line-rises, line-own_act}
-use Rattle.kt_history.proofs.Lines.{line-own_cut, line-other_act, line-other_cut, note_at-old, note_at-new, note_at-within}
+use Rattle.kt_history.proofs.Logs.{same_node-true, same_node-refl, log-own, log-stack, log-rises, log-own_act}
+use Rattle.kt_history.proofs.Logs.{log-own_cut, log-other_act, log-other_cut, note_at-old, note_at-new, note_at-within}
 use Rattle.kt_history.proofs.Survivors.{Stands-own}
 use Rattle.kt_history.proofs.Lists.{slice_get-take_below}
 
@@ -71,14 +73,14 @@ marked_acts-unmarked m h a e =
     ∙ ap (λ b. marked_acts m h ++ cond b (a ∷ []) []) e
     ∙ append-nil (marked_acts m h)
 
--- of two acts in one line, the first stood before the second
-pub StoodBefore-from_line : (h : List Note) (p : NodeId) (i j e g : ℕ) → i < j → slice_get (line h p) i ≡ Some e → slice_get (line h p) j ≡ Some g
+-- of two acts in one log, the first stood before the second
+pub StoodBefore-from_log : (h : List Note) (p : NodeId) (i j e g : ℕ) → i < j → slice_get (log h p) i ≡ Some e → slice_get (log h p) j ≡ Some g
     → StoodBefore h e g
-StoodBefore-from_line h p i j e g lt at_i at_j =
-    let its = line-own h p g (Contains-from_slice_get (line h p) j g at_j) in
-    let at : slice_get (line (before h g) p) i ≡ Some e = ap (λ xs. slice_get xs i) (line-stack h p j g at_j) ∙ slice_get-take_below j (line h p) i lt ∙ at_i in
-    let P : NodeId → Type 0 = λ q. Contains (line (before h g) q) e in
-    record { act = its.act; is_act = its.is_act; stood = subst P (sym its.own) (Contains-from_slice_get (line (before h g) p) i e at) }
+StoodBefore-from_log h p i j e g lt at_i at_j =
+    let its = log-own h p g (Contains-from_slice_get (log h p) j g at_j) in
+    let at : slice_get (log (before h g) p) i ≡ Some e = ap (λ xs. slice_get xs i) (log-stack h p j g at_j) ∙ slice_get-take_below j (log h p) i lt ∙ at_i in
+    let P : NodeId → Type 0 = λ q. Contains (log (before h g) q) e in
+    record { act = its.act; is_act = its.is_act; stood = subst P (sym its.own) (Contains-from_slice_get (log (before h g) p) i e at) }
 
 -- the acts at the numbers of two lists
 pub acts_at-append : (h : List Note) (xs ys : List ℕ) → acts_at h (xs ++ ys) ≡ acts_at h xs ++ acts_at h ys
@@ -101,52 +103,52 @@ acts_at-take h (suc k) (x ∷ xs) acts =
     ∙ ap (λ ys. a.0 ∷ ys) (acts_at-take h k xs (λ n c. acts n (Contains-there x xs n c)))
     ∙ ap (λ o. take (suc k) (cons_option (act_of o) (acts_at h xs))) (sym a.1)
 
-line_within : (h : List Note) (p : NodeId) (n : ℕ) → Contains (line h p) n → n ≤ length h
-line_within h p n c = let its = line-own h p n c in (note_at-within h n (notes.Act its.act) its.is_act).1
+log_within : (h : List Note) (p : NodeId) (n : ℕ) → Contains (log h p) n → n ≤ length h
+log_within h p n c = let its = log-own h p n c in (note_at-within h n (notes.Act its.act) its.is_act).1
 
--- an act moves its node's line and no other; a cut takes a front of its node's line, and no other
-pub acts_in_line-own_act : (h : List Note) (a : Act) → acts_in_line (h ++ notes.Act a ∷ []) a.node ≡ acts_in_line h a.node ++ a ∷ []
-acts_in_line-own_act h a =
+-- an act moves its node's log and no other; a cut takes a front of its node's log, and no other
+pub acts_in_log-own_act : (h : List Note) (a : Act) → acts_in_log (h ++ notes.Act a ∷ []) a.node ≡ acts_in_log h a.node ++ a ∷ []
+acts_in_log-own_act h a =
     let g = h ++ notes.Act a ∷ [] in
-    ap (acts_at g) (line-own_act h a)
-    ∙ acts_at-append g (line h a.node) (suc (length h) ∷ [])
-    ∙ ap (λ xs. xs ++ acts_at g (suc (length h) ∷ [])) (acts_at-old h (notes.Act a ∷ []) (line h a.node) (line_within h a.node))
-    ∙ ap (λ o. acts_in_line h a.node ++ cons_option (act_of o) []) (note_at-new h (notes.Act a))
+    ap (acts_at g) (log-own_act h a)
+    ∙ acts_at-append g (log h a.node) (suc (length h) ∷ [])
+    ∙ ap (λ xs. xs ++ acts_at g (suc (length h) ∷ [])) (acts_at-old h (notes.Act a ∷ []) (log h a.node) (log_within h a.node))
+    ∙ ap (λ o. acts_in_log h a.node ++ cons_option (act_of o) []) (note_at-new h (notes.Act a))
 
-pub acts_in_line-other_act : (h : List Note) (a : Act) (p : NodeId) → same_node a.node p ≡ false → acts_in_line (h ++ notes.Act a ∷ []) p ≡ acts_in_line h p
-acts_in_line-other_act h a p other =
-    ap (acts_at (h ++ notes.Act a ∷ [])) (line-other_act h a p other) ∙ acts_at-old h (notes.Act a ∷ []) (line h p) (line_within h p)
+pub acts_in_log-other_act : (h : List Note) (a : Act) (p : NodeId) → same_node a.node p ≡ false → acts_in_log (h ++ notes.Act a ∷ []) p ≡ acts_in_log h p
+acts_in_log-other_act h a p other =
+    ap (acts_at (h ++ notes.Act a ∷ [])) (log-other_act h a p other) ∙ acts_at-old h (notes.Act a ∷ []) (log h p) (log_within h p)
 
-pub acts_in_line-own_cut : (h : List Note) (p : NodeId) (keep : ℕ) → acts_in_line (h ++ notes.Cut p keep ∷ []) p ≡ take keep (acts_in_line h p)
-acts_in_line-own_cut h p keep =
+pub acts_in_log-own_cut : (h : List Note) (p : NodeId) (keep : ℕ) → acts_in_log (h ++ notes.Cut p keep ∷ []) p ≡ take keep (acts_in_log h p)
+acts_in_log-own_cut h p keep =
     let g = h ++ notes.Cut p keep ∷ [] in
-    ap (acts_at g) (line-own_cut h p keep)
-    ∙ acts_at-take g keep (line h p) (λ n c. let its = line-own h p n c in
-    (its.act, note_at-old h (notes.Cut p keep ∷ []) n (line_within h p n c) ∙ its.is_act))
-    ∙ ap (take keep) (acts_at-old h (notes.Cut p keep ∷ []) (line h p) (line_within h p))
+    ap (acts_at g) (log-own_cut h p keep)
+    ∙ acts_at-take g keep (log h p) (λ n c. let its = log-own h p n c in
+    (its.act, note_at-old h (notes.Cut p keep ∷ []) n (log_within h p n c) ∙ its.is_act))
+    ∙ ap (take keep) (acts_at-old h (notes.Cut p keep ∷ []) (log h p) (log_within h p))
 
-pub acts_in_line-other_cut : (h : List Note) (q : NodeId) (keep : ℕ) (p : NodeId) → same_node q p ≡ false
-    → acts_in_line (h ++ notes.Cut q keep ∷ []) p ≡ acts_in_line h p
-acts_in_line-other_cut h q keep p other =
-    ap (acts_at (h ++ notes.Cut q keep ∷ [])) (line-other_cut h q keep p other) ∙ acts_at-old h (notes.Cut q keep ∷ []) (line h p) (line_within h p)
+pub acts_in_log-other_cut : (h : List Note) (q : NodeId) (keep : ℕ) (p : NodeId) → same_node q p ≡ false
+    → acts_in_log (h ++ notes.Cut q keep ∷ []) p ≡ acts_in_log h p
+acts_in_log-other_cut h q keep p other =
+    ap (acts_at (h ++ notes.Cut q keep ∷ [])) (log-other_cut h q keep p other) ∙ acts_at-old h (notes.Cut q keep ∷ []) (log h p) (log_within h p)
 
 -- how far the choice has come with the notes g, the first of h: the marked acts of p among them are the
--- acts of a front of p's line in h
+-- acts of a front of p's log in h
 record IsPart (h : List Note) (marks : ℕ → Bool) (p : NodeId) (g : List Note) : Type 0 where
   front : List ℕ
   rest : List ℕ
-  split : line h p ≡ front ++ rest
+  split : log h p ≡ front ++ rest
   low : (n : ℕ) → Contains front n → n ≤ length g
   high : (n : ℕ) → Contains rest n → marks n ≡ true → length g < n
   marked : (n : ℕ) → Contains front n → marks n ≡ true
   acts : own p (marked_acts marks g) ≡ acts_at h front
 
 module _ (h : List Note) (marks : ℕ → Bool) (closed : IsClosed h marks) (p : NodeId) where
-  in_rest : (g : List Note) (s : IsPart h marks p g) (n : ℕ) → Contains s.rest n → Contains (line h p) n
+  in_rest : (g : List Note) (s : IsPart h marks p g) (n : ℕ) → Contains s.rest n → Contains (log h p) n
   in_rest g s n c = let P : List ℕ → Type 0 = λ xs. Contains xs n in subst P (sym s.split) (Contains-append_right s.front s.rest n c)
 
   -- the next note is none that is chosen for p
-  passes : (g : List Note) (x : Note) (s : IsPart h marks p g) → (Contains (line h p) (suc (length g)) → marks (suc (length g)) ≡ true → ⊥)
+  passes : (g : List Note) (x : Note) (s : IsPart h marks p g) → (Contains (log h p) (suc (length g)) → marks (suc (length g)) ≡ true → ⊥)
       → own p (marked_acts marks (g ++ x ∷ [])) ≡ own p (marked_acts marks g) → IsPart h marks p (g ++ x ∷ [])
   passes g x s none same = record {
     front = s.front;
@@ -155,7 +157,7 @@ module _ (h : List Note) (marks : ℕ → Bool) (closed : IsClosed h marks) (p :
     low = λ n c. omega (arith, s.low n c, length_push g x);
     high = λ n c m. elim (cases_eq n (suc (length g))) [
       | inl here ↦
-          let P : ℕ → Type 0 = λ k. Contains (line h p) k → marks k ≡ true → ⊥ in
+          let P : ℕ → Type 0 = λ k. Contains (log h p) k → marks k ≡ true → ⊥ in
           absurd (subst P (sym here) none (in_rest g s n c) m)
       | inr later ↦ omega (arith, s.high n c m, later, length_push g x)
     ];
@@ -168,7 +170,7 @@ module _ (h : List Note) (marks : ℕ → Bool) (closed : IsClosed h marks) (p :
     later : List ℕ
     is : s.rest ≡ suc (length g) ∷ later
 
-  next_stands : (g : List Note) (s : IsPart h marks p g) → Contains (line h p) (suc (length g)) → marks (suc (length g)) ≡ true → StandsNext g s
+  next_stands : (g : List Note) (s : IsPart h marks p g) → Contains (log h p) (suc (length g)) → marks (suc (length g)) ≡ true → StandsNext g s
   next_stands g s c m =
       let P : List ℕ → Type 0 = λ xs. Contains xs (suc (length g)) in
       elim (Contains-append_cases s.front s.rest (suc (length g)) (subst P s.split c)) [
@@ -185,13 +187,13 @@ module _ (h : List Note) (marks : ℕ → Bool) (closed : IsClosed h marks) (p :
           | inr later ↦
               let R : List ℕ → Type 0 = λ ys. slice_get ys 0 ≡ Some x in
               let head : slice_get s.rest 0 ≡ Some x = subst R (sym e) refl in
-              let at_head : slice_get (line h p) (length s.front + 0) ≡ Some x =
+              let at_head : slice_get (log h p) (length s.front + 0) ≡ Some x =
               ap (λ ys. slice_get ys (length s.front + 0)) s.split ∙ slice_get-append_right s.front s.rest 0 ∙ head in
-              let at_next : slice_get (line h p) (length s.front + at.0) ≡ Some (suc (length g)) =
+              let at_next : slice_get (log h p) (length s.front + at.0) ≡ Some (suc (length g)) =
               ap (λ ys. slice_get ys (length s.front + at.0)) s.split ∙ slice_get-append_right s.front s.rest at.0 ∙ at.1 in
               let lt : length s.front + 0 < length s.front + at.0 = omega (arith, later) in
-              let below = StoodBefore-from_line h p (length s.front + 0) (length s.front + at.0) x (suc (length g)) lt at_head at_next in
-              let smaller : x < suc (length g) = line-rises h p (length s.front + 0) (length s.front + at.0) x (suc (length g)) lt at_head at_next in
+              let below = StoodBefore-from_log h p (length s.front + 0) (length s.front + at.0) x (suc (length g)) lt at_head at_next in
+              let smaller : x < suc (length g) = log-rises h p (length s.front + 0) (length s.front + at.0) x (suc (length g)) lt at_head at_next in
               let larger : length g < x = s.high x (Contains-from_slice_get s.rest 0 x head) (closed.below x (suc (length g)) m below) in
               absurd (omega (arith, smaller, larger))
         ]
@@ -227,21 +229,21 @@ module _ (h : List Note) (marks : ℕ → Bool) (closed : IsClosed h marks) (p :
             let P : List ℕ → ℕ → ℕ → Type 0 = λ xs i v. slice_get xs i ≡ Some v in
             let Q : List ℕ → Type 0 = λ xs. slice_get xs 0 ≡ Some (suc (length g)) in
             let R : List ℕ → Type 0 = λ xs. slice_get xs (suc far.0) ≡ Some k in
-            let at_n : slice_get (line h p) (length s.front + 0) ≡ Some (suc (length g)) =
+            let at_n : slice_get (log h p) (length s.front + 0) ≡ Some (suc (length g)) =
             ap (λ ys. slice_get ys (length s.front + 0)) s.split ∙ slice_get-append_right s.front s.rest 0 ∙ subst Q (sym next.is) refl in
-            let at_k : slice_get (line h p) (length s.front + suc far.0) ≡ Some k = ap (λ ys. slice_get ys (length s.front + suc far.0)) s.split
+            let at_k : slice_get (log h p) (length s.front + suc far.0) ≡ Some k = ap (λ ys. slice_get ys (length s.front + suc far.0)) s.split
             ∙ slice_get-append_right s.front s.rest (suc far.0) ∙ subst R (sym next.is) far.1 in
             omega (
               arith,
               length_push g (notes.Act a),
-              line-rises h p (length s.front + 0) (length s.front + suc far.0) (suc
+              log-rises h p (length s.front + 0) (length s.front + suc far.0) (suc
                   (length g)) k (omega arith) at_n at_k,
             )
 
   part_step : (g : List Note) (x : Note) → note_at h (suc (length g)) ≡ Some x → IsPart h marks p g → IsPart h marks p (g ++ x ∷ [])
   part_step g (notes.Cut q keep) at s =
       passes g (notes.Cut q keep) s
-      (λ c m. let its = line-own h p (suc (length g)) c in let both : Some (notes.Act its.act) ≡ Some (notes.Cut q keep) = sym its.is_act ∙ at in cc)
+      (λ c m. let its = log-own h p (suc (length g)) c in let both : Some (notes.Act its.act) ≡ Some (notes.Cut q keep) = sym its.is_act ∙ at in cc)
       (ap (own p) (marked_acts-cut marks g q keep))
   part_step g (notes.Act a) at s = elim (cases_Bool (marks (suc (length g)))) [
     | inr unmarked ↦
@@ -250,7 +252,7 @@ module _ (h : List Note) (marks : ℕ → Bool) (closed : IsClosed h marks) (p :
       | inr other ↦
           passes g (notes.Act a) s
           (λ c _.
-          let its = line-own h p (suc (length g)) c in
+          let its = log-own h p (suc (length g)) c in
           let both : Some (notes.Act its.act) ≡ Some (notes.Act a) = sym its.is_act ∙ at in
           let same : its.act ≡ a = cc in
           let P : NodeId → Type 0 = λ q. same_node a.node q ≡ true in
@@ -261,12 +263,12 @@ module _ (h : List Note) (marks : ℕ → Bool) (closed : IsClosed h marks) (p :
           ∙ append-nil (own p (marked_acts marks g)))
       | inl same ↦
           let stands = Stands-own h (suc (length g)) a at (closed.stands (suc (length g)) m) in
-          let P : NodeId → Type 0 = λ q. Contains (line h q) (suc (length g)) in
+          let P : NodeId → Type 0 = λ q. Contains (log h q) (suc (length g)) in
           takes g a s (next_stands g s (subst P (same_node-true a.node p same) stands) m) at m same
     ]
   ]
 
--- the marked acts of p are the acts of a front of p's line
+-- the marked acts of p are the acts of a front of p's log
 pub record MarkedFront (h : List Note) (marks : ℕ → Bool) (p : NodeId) : Type 0 where
   pub is_front : IsFront h marks p
   pub acts : own p (marked_acts marks h) ≡ acts_at h is_front.front
@@ -282,7 +284,7 @@ marked_front h marks closed p =
         split = s.split;
         marked = s.marked;
         unmarked = λ n c m. let P : List ℕ → Type 0 = λ xs. Contains xs n in
-            let le = line_within h p n (subst P (sym s.split) (Contains-append_right s.front s.rest n c)) in
+            let le = log_within h p n (subst P (sym s.split) (Contains-append_right s.front s.rest n c)) in
             omega (arith, le, s.high n c m);
       };
       acts = s.acts;
@@ -290,10 +292,10 @@ marked_front h marks closed p =
       empty : (later : List Note) → [] ++ later ≡ h → IsPart h marks p []
       empty later e = record {
         front = [];
-        rest = line h p;
+        rest = log h p;
         split = refl;
         low = λ n c. absurd (Contains-none n c);
-        high = λ n c m. let its = line-own h p n c in omega (arith, note_at-within h n (notes.Act its.act) its.is_act);
+        high = λ n c m. let its = log-own h p n c in omega (arith, note_at-within h n (notes.Act its.act) its.is_act);
         marked = λ n c. absurd (Contains-none n c);
         acts = refl;
       }

@@ -1,4 +1,5 @@
 -- What a history keeps agrees with its notes: at first, and whatever the marks and rows are called.
+-- Cited by KeepingActs, KeepingCuts, `History::add_act`, `History::add_cut`, `History::new`, `History::survives`.
 use Rattle.std.proofs.Common.{◌≡◌, ℕ, zero, suc, ◌-◌, ◌<◌, ◌≤◌, ◌||◌, Bool, List, [], length, get_or}
 use Rattle.std.proofs.Common.{Option, None, Some, refl, sym, ap, ◌∙◌, subst, arith, ◌↔◌, IsTrue}
 use Rattle.std.specs.List.{slice_get}
@@ -10,14 +11,14 @@ use Rattle.kt_history.specs.declared.note.Act.{Act}
 use Rattle.kt_history.specs.declared.note.Note.{Note}
 use Rattle.kt_history.specs.declared.note.Note.TheVariants as notes
 use Rattle.kt_history.specs.declared.mark.Mark.{Mark}
-use Rattle.kt_history.specs.Line.{before, line}
+use Rattle.kt_history.specs.Log.{before, log}
 use Rattle.kt_history.specs.Survival.{Survives, survives}
 use Rattle.kt_history.specs.WellFormed.{MayFollow, CausesComeFirst}
 use Rattle.std.specs.declared.vec.Vec.{Vec}
 use Rattle.std.specs.declared.alloc.Global.{Global}
 use Rattle.kt_history.proofs.RowSteps.{row_at-rows_of}
-use Rattle.kt_history.specs.inner.Marks.{rows_of, lasts, mark_at, lasts_in, LooksBack, AreMarksOf, row_at, Agrees}
-use Rattle.kt_history.proofs.Lines.{line-empty, note_at-within, length-before_note}
+use Rattle.kt_history.specs.auxiliary.Marks.{rows_of, lasts, mark_at, lasts_in, LooksBack, AreMarksOf, row_at, Agrees}
+use Rattle.kt_history.proofs.Logs.{log-empty, note_at-within, length-before_note}
 use Rattle.kt_history.proofs.Pasts.{CausesComeFirst-empty}
 use Rattle.kt_history.proofs.Survivors.{survives-decides, Survives-act}
 use Rattle.kt_history.proofs.Changes.{cause_within}
@@ -26,7 +27,7 @@ use Rattle.kt_history.proofs.Changes.{cause_within}
 pub Agrees-empty : Agrees [] [] [] 0
 Agrees-empty = record {
   causes = CausesComeFirst-empty;
-  lines = λ p. sym (line-empty p);
+  logs = λ p. sym (log-empty p);
   lengths = refl;
   survive = λ k lt. absurd (omega (arith, lt));
   previous = λ k a e. absurd (none-some (notes.Act a) e);
@@ -84,7 +85,7 @@ pub Agrees-same_rows : (h : List Note) (rows more : List (List ℕ)) (marks : Li
     → ((i : ℕ) → row_at more i ≡ row_at rows i) → Agrees h more marks lost
 Agrees-same_rows h rows more marks lost a same = record {
   causes = a.causes;
-  lines = λ p. same (node_index p) ∙ a.lines p;
+  logs = λ p. same (node_index p) ∙ a.logs p;
   lengths = a.lengths;
   survive = a.survive;
   previous = a.previous;
@@ -106,12 +107,12 @@ Agrees-at h h' rows rows' marks marks' lost lost' e f g k a =
 pub MayFollow-at : (h h' : List Note) (note : Note) → h' ≡ h → MayFollow h note → MayFollow h' note
 MayFollow-at h h' note e m = let P : List Note → Type 0 = λ x. MayFollow x note in subst P (sym e) m
 
--- the vector at a node's place holds the node's line
+-- the vector at a node's place holds the node's log
 pub Agrees-row : (h : List Note) (table more : List (Vec ℕ Global)) (marks : List Mark) (lost : ℕ) → Agrees h (rows_of table) marks lost
     → ((i : ℕ) → row_at (rows_of more) i ≡ row_at (rows_of table) i) → (p : NodeId) (i : ℕ) (v : Vec ℕ Global) → i ≡ node_index p → i < length more
-    → v ≡ get_or more i v → v.items ≡ line h p
+    → v ≡ get_or more i v → v.items ≡ log h p
 Agrees-row h table more marks lost a same p i v is_place lt at =
-    sym (row_at-rows_of more i v lt at) ∙ same i ∙ ap (row_at (rows_of table)) is_place ∙ a.lines p
+    sym (row_at-rows_of more i v lt at) ∙ same i ∙ ap (row_at (rows_of table)) is_place ∙ a.logs p
 
 pub AreMarksOf-at : (h h' : List Note) (marks marks' : List Mark) → h' ≡ h → marks' ≡ marks → AreMarksOf h marks → AreMarksOf h' marks'
 AreMarksOf-at h h' marks marks' e f a =

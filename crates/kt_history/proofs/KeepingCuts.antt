@@ -1,4 +1,5 @@
 -- What a history keeps goes on agreeing with its notes by one cut more.
+-- Cited by `History::add_cut`.
 use Rattle.std.proofs.Common.{◌≡◌, ℕ, zero, suc, ◌+◌, ◌<◌, ◌≤◌, ◌==◌, ◌&&◌, not, false, List, [], ◌∷◌, ◌++◌, take, drop, set}
 use Rattle.std.proofs.Common.{length, get_or, Option, None, Some, refl, sym, ap, ◌∙◌, subst, inl, inr, arith, Contains, add-zero}
 use Rattle.std.specs.List.{slice_get, list_any}
@@ -12,42 +13,42 @@ use Rattle.kt_history.specs.declared.note.Act.{Act}
 use Rattle.kt_history.specs.declared.note.Note.{Note}
 use Rattle.kt_history.specs.declared.note.Note.TheVariants as notes
 use Rattle.kt_history.specs.declared.mark.Mark.{Mark}
-use Rattle.kt_history.specs.Line.{note_at, before, same_node, line, last_of}
+use Rattle.kt_history.specs.Log.{note_at, before, same_node, log, last_of}
 use Rattle.kt_history.specs.Survival.{survives}
 use Rattle.kt_history.specs.WellFormed.{MayFollow, CausesComeFirst}
-use Rattle.kt_history.specs.inner.Marks.{lasts, no_mark, mark_at, lasts_in, unmarked, renewed, AreLost, HasLost, lost_among, row_at, Agrees}
+use Rattle.kt_history.specs.auxiliary.Marks.{lasts, no_mark, mark_at, lasts_in, unmarked, renewed, AreLost, HasLost, lost_among, row_at, Agrees}
 use Rattle.kt_history.proofs.Lists.{slice_get-drop, slice_get-from_Contains, Contains-from_slice_get}
-use Rattle.kt_history.proofs.Lines.{same_node-true, line-own, line-own_cut, line-other_cut, note_at-old}
-use Rattle.kt_history.proofs.Lines.{note_at-new, note_at-within, note_at-push_cases, before-old, length-before_note}
+use Rattle.kt_history.proofs.Logs.{same_node-true, log-own, log-own_cut, log-other_cut, note_at-old}
+use Rattle.kt_history.proofs.Logs.{note_at-new, note_at-within, note_at-push_cases, before-old, length-before_note}
 use Rattle.kt_history.proofs.Pasts.{CausesComeFirst-push}
 use Rattle.kt_history.proofs.Survivors.{survives-decides, Survives-act}
-use Rattle.kt_history.proofs.Changes.{cause_within, survives-cut, survives-cut_before, drop-line-from_first}
+use Rattle.kt_history.proofs.Changes.{cause_within, survives-cut, survives-cut_before, drop-log-from_first}
 use Rattle.kt_history.proofs.MarkSteps.{lost_among-push, renewed-place, renewed-previous}
 use Rattle.kt_history.proofs.Keeping.{lasts-step, Agrees-at}
 
--- what a cut takes out of a line
-pub AreLost-from_cut : (h : List Note) (p : NodeId) (keep : ℕ) → 0 < length (drop keep (line h p)) → AreLost h (drop keep (line h p))
+-- what a cut takes out of a log
+pub AreLost-from_cut : (h : List Note) (p : NodeId) (keep : ℕ) → 0 < length (drop keep (log h p)) → AreLost h (drop keep (log h p))
 AreLost-from_cut h p keep some = record {
   some = some;
   positive = (each (get_or numbers 0 0) first_is).0;
   first_within = (each (get_or numbers 0 0) first_is).1;
-  least = λ n c. drop-line-from_first h p keep (get_or numbers 0 0) n at_keep c;
+  least = λ n c. drop-log-from_first h p keep (get_or numbers 0 0) n at_keep c;
   within = each;
 } where
   numbers : List ℕ
-  numbers = drop keep (line h p)
+  numbers = drop keep (log h p)
 
-  each : (n : ℕ) → Contains (drop keep (line h p)) n → (1 ≤ n) × (n ≤ length h)
+  each : (n : ℕ) → Contains (drop keep (log h p)) n → (1 ≤ n) × (n ≤ length h)
   each n c =
-      let far = slice_get-from_Contains (drop keep (line h p)) n c in
-      let own = line-own h p n (Contains-from_slice_get (line h p) (keep + far.0) n (sym (slice_get-drop keep (line h p) far.0) ∙ far.1)) in
+      let far = slice_get-from_Contains (drop keep (log h p)) n c in
+      let own = log-own h p n (Contains-from_slice_get (log h p) (keep + far.0) n (sym (slice_get-drop keep (log h p) far.0) ∙ far.1)) in
       note_at-within h n (notes.Act own.act) own.is_act
 
-  first_is : Contains (drop keep (line h p)) (get_or (drop keep (line h p)) 0 0)
-  first_is = Contains-get_or (drop keep (line h p)) 0 0 some
+  first_is : Contains (drop keep (log h p)) (get_or (drop keep (log h p)) 0 0)
+  first_is = Contains-get_or (drop keep (log h p)) 0 0 some
 
-  at_keep : slice_get (line h p) keep ≡ Some (get_or (drop keep (line h p)) 0 0)
-  at_keep = ap (slice_get (line h p)) (sym (add-zero keep)) ∙ sym (slice_get-drop keep (line h p) 0) ∙ slice_get-get_or (drop keep (line h p)) 0 0 some
+  at_keep : slice_get (log h p) keep ≡ Some (get_or (drop keep (log h p)) 0 0)
+  at_keep = ap (slice_get (log h p)) (sym (add-zero keep)) ∙ sym (slice_get-drop keep (log h p) 0) ∙ slice_get-get_or (drop keep (log h p)) 0 0 some
 
 survives-no_act : (h : List Note) → CausesComeFirst h → (n : ℕ) (p : NodeId) (keep : ℕ) → note_at h n ≡ Some (notes.Cut p keep) → survives h n ≡ false
 survives-no_act h w n p keep e = elim (cases_Bool (survives h n)) [
@@ -59,16 +60,16 @@ survives-no_act h w n p keep e = elim (cases_Bool (survives h n)) [
 
 -- the marks say what survives once nothing was cut off
 cut_survive_none : (h : List Note) (p : NodeId) (keep : ℕ) → CausesComeFirst h → CausesComeFirst (h ++ notes.Cut p keep ∷ [])
-    → length (drop keep (line h p)) ≡ 0 → (n : ℕ) → n ≤ length h → survives (h ++ notes.Cut p keep ∷ []) n ≡ survives h n
+    → length (drop keep (log h p)) ≡ 0 → (n : ℕ) → n ≤ length h → survives (h ++ notes.Cut p keep ∷ []) n ≡ survives h n
 cut_survive_none h p keep w w' none n le = survives-cut_before h p keep w w' n le (λ e c. absurd (omega (arith, c.1, none)))
 
 -- the marks say what survives once some acts were cut off
 cut_survive_some : (h : List Note) (rows : List (List ℕ)) (marks new : List Mark) (lost : ℕ) (p : NodeId) (keep : ℕ) → Agrees h rows marks lost
-    → CausesComeFirst (h ++ notes.Cut p keep ∷ []) → AreLost h (drop keep (line h p)) → HasLost h (drop keep (line h p)) marks new → (bound k : ℕ) → k < bound
+    → CausesComeFirst (h ++ notes.Cut p keep ∷ []) → AreLost h (drop keep (log h p)) → HasLost h (drop keep (log h p)) marks new → (bound k : ℕ) → k < bound
     → k < length h → (mark_at new k).survives ≡ survives (h ++ notes.Cut p keep ∷ []) (suc k)
 cut_survive_some h rows marks new lost p keep a w' some l zero k small within = absurd (omega (arith, small))
 cut_survive_some h rows marks new lost p keep a w' some l (suc bound) k small within =
-    elim (cases_lt (suc k) (get_or (drop keep (line h p)) 0 0)) [
+    elim (cases_lt (suc k) (get_or (drop keep (log h p)) 0 0)) [
       | inl before_all ↦
           ap (λ (m : Mark). m.survives) (l.below k before_all)
           ∙ a.survive k within
@@ -79,15 +80,15 @@ cut_survive_some h rows marks new lost p keep a w' some l (suc bound) k small wi
           (omega (arith, lt, within)))
     ] where
       go : (o : Option Note) → slice_get h k ≡ o → ((j : ℕ) → j < k → (mark_at new j).survives ≡ survives (h ++ notes.Cut p keep ∷ []) (suc j))
-          → (renewed o (unmarked (drop keep (line h p)) k (mark_at marks k)) new).survives ≡ survives (h ++ notes.Cut p keep ∷ []) (suc k)
+          → (renewed o (unmarked (drop keep (log h p)) k (mark_at marks k)) new).survives ≡ survives (h ++ notes.Cut p keep ∷ []) (suc k)
       go None e ih = absurd (none-some (get_or h k (notes.Cut p keep)) (sym e ∙ slice_get-get_or h k (notes.Cut p keep) within))
       go (Some (notes.Cut q kept)) e ih =
-          ap (λ b. b && not (list_any (λ m. m == suc k) (drop keep (line h p)))) (a.survive k within ∙ survives-no_act h a.causes (suc k) q kept e)
+          ap (λ b. b && not (list_any (λ m. m == suc k) (drop keep (log h p)))) (a.survive k within ∙ survives-no_act h a.causes (suc k) q kept e)
           ∙ sym (survives-no_act (h ++ notes.Cut p keep ∷ []) w' (suc k) q kept (note_at-old h (notes.Cut p keep ∷ []) (suc k) (omega (arith, within)) ∙ e))
       go (Some (notes.Act b)) e ih =
-          let gone = list_any (λ m. m == suc k) (drop keep (line h p)) in
+          let gone = list_any (λ m. m == suc k) (drop keep (log h p)) in
           let g = h ++ notes.Cut p keep ∷ [] in
-          let last = last_of (line (before h (suc k)) b.node) in
+          let last = last_of (log (before h (suc k)) b.node) in
           let old = mark_at marks k in
           let is_last : old.previous ≡ last = a.previous k b e in
           let back : last ≤ k = omega (arith, is_last, a.back k within) in
@@ -108,7 +109,7 @@ cut_agrees : (h : List Note) (rows : List (List ℕ)) (marks new : List Mark) (l
     → Agrees (h ++ notes.Cut p keep ∷ []) (set rows (node_index p) (take keep (row_at rows (node_index p)))) (new ++ no_mark ∷ []) more
 cut_agrees h rows marks new lost more p keep a w' len survive previous placed counted = record {
   causes = w';
-  lines = lines;
+  logs = logs;
   lengths = omega (arith, length_push new no_mark, length_push h (notes.Cut p keep), a.lengths, len);
   survive = λ k within. elim (cases_lt k (length h)) [
     | inl old ↦ ap (λ (m : Mark). m.survives) (old_mark k old) ∙ survive k old
@@ -122,14 +123,14 @@ cut_agrees h rows marks new lost more p keep a w' len survive previous placed co
     | inl old ↦
         let small : k < length h = omega (arith, old.0) in
         ap (λ (m : Mark). m.previous) (old_mark k small) ∙ previous k small ∙ a.previous k b old.1
-        ∙ ap (λ past. last_of (line past b.node)) (sym (before-old h (notes.Cut p keep ∷ []) (suc k) (omega (arith, small))))
+        ∙ ap (λ past. last_of (log past b.node)) (sym (before-old h (notes.Cut p keep ∷ []) (suc k) (omega (arith, small))))
     | inr late ↦ let both = late.1 in cc
   ];
   place = λ k b e. elim (note_at-push_cases h (notes.Cut p keep) (suc k) (notes.Act b) e) [
     | inl old ↦
         let small : k < length h = omega (arith, old.0) in
         ap (λ (m : Mark). m.place) (old_mark k small) ∙ placed k small ∙ a.place k b old.1
-        ∙ ap (λ past. length (line past b.node) + 1) (sym (before-old h (notes.Cut p keep ∷ []) (suc k) (omega (arith, small))))
+        ∙ ap (λ past. length (log past b.node) + 1) (sym (before-old h (notes.Cut p keep ∷ []) (suc k) (omega (arith, small))))
     | inr late ↦ let both = late.1 in cc
   ];
   back = λ k within. elim (cases_lt k (length h)) [
@@ -156,25 +157,25 @@ cut_agrees h rows marks new lost more p keep a w' len survive previous placed co
         ∙ sym (ap (take keep) (get_or_past rows i [] past) ∙ take_all keep [] (omega arith))
   ]
 
-  lines : (q : NodeId) → row_at (set rows (node_index p) (take keep (row_at rows (node_index p)))) (node_index q) ≡ line (h ++ notes.Cut p keep ∷ []) q
-  lines q = elim (cases_Bool (same_node p q)) [
-    | inl own_line ↦
+  logs : (q : NodeId) → row_at (set rows (node_index p) (take keep (row_at rows (node_index p)))) (node_index q) ≡ log (h ++ notes.Cut p keep ∷ []) q
+  logs q = elim (cases_Bool (same_node p q)) [
+    | inl own_log ↦
         let P : NodeId → Type 0 =
-        λ r. row_at (set rows (node_index p) (take keep (row_at rows (node_index p)))) (node_index r) ≡ line (h ++ notes.Cut p keep ∷ []) r in
-        subst P (same_node-true p q own_line) (own_row (node_index p) ∙ ap (take keep) (a.lines p) ∙ sym (line-own_cut h p keep))
+        λ r. row_at (set rows (node_index p) (take keep (row_at rows (node_index p)))) (node_index r) ≡ log (h ++ notes.Cut p keep ∷ []) r in
+        subst P (same_node-true p q own_log) (own_row (node_index p) ∙ ap (take keep) (a.logs p) ∙ sym (log-own_cut h p keep))
     | inr other ↦
         get_or-set_other rows (node_index p) (node_index q) (take keep (row_at rows (node_index p))) []
         (λ e. eqb-false (node_index p) (node_index q) other (sym e))
-        ∙ a.lines q
-        ∙ sym (line-other_cut h p keep q other)
+        ∙ a.logs q
+        ∙ sym (log-other_cut h p keep q other)
   ]
 
 -- one cut more
 pub Agrees-cut : (h : List Note) (rows : List (List ℕ)) (marks new : List Mark) (lost more : ℕ) (p : NodeId) (keep : ℕ) → Agrees h rows marks lost
-    → MayFollow h (notes.Cut p keep) → (length (drop keep (line h p)) ≡ 0 → new ≡ marks)
-    → (0 < length (drop keep (line h p)) → HasLost h (drop keep (line h p)) marks new) → more ≡ lost_among h new
+    → MayFollow h (notes.Cut p keep) → (length (drop keep (log h p)) ≡ 0 → new ≡ marks)
+    → (0 < length (drop keep (log h p)) → HasLost h (drop keep (log h p)) marks new) → more ≡ lost_among h new
     → Agrees (h ++ notes.Cut p keep ∷ []) (set rows (node_index p) (take keep (row_at rows (node_index p)))) (new ++ no_mark ∷ []) more
-Agrees-cut h rows marks new lost more p keep a may none some counted = elim (cases_eq (length (drop keep (line h p))) 0) [
+Agrees-cut h rows marks new lost more p keep a may none some counted = elim (cases_eq (length (drop keep (log h p))) 0) [
   | inl nothing ↦
       let same : new ≡ marks = none nothing in
       cut_agrees h rows marks new lost more p keep a w' (ap length same)
@@ -183,32 +184,32 @@ Agrees-cut h rows marks new lost more p keep a may none some counted = elim (cas
       (λ k lt. ap (λ ms. (mark_at ms k).place) same)
       counted
   | inr something ↦
-      let positive : 0 < length (drop keep (line h p)) = omega (arith, something) in
+      let positive : 0 < length (drop keep (log h p)) = omega (arith, something) in
       let lose = some positive in
       cut_agrees h rows marks new lost more p keep a w' lose.lengths
       (λ k lt. cut_survive_some h rows marks new lost p keep a w' (AreLost-from_cut h p keep positive) lose (suc k) k (omega arith) lt)
-      (λ k lt. elim (cases_lt (suc k) (get_or (drop keep (line h p)) 0 0)) [
+      (λ k lt. elim (cases_lt (suc k) (get_or (drop keep (log h p)) 0 0)) [
         | inl before_all ↦ ap (λ (m : Mark). m.previous) (lose.below k before_all)
         | inr behind ↦ ap (λ (m : Mark). m.previous) (lose.above k behind lt)
-            ∙ renewed-previous (slice_get h k) (unmarked (drop keep (line h p)) k (mark_at marks k)) new
+            ∙ renewed-previous (slice_get h k) (unmarked (drop keep (log h p)) k (mark_at marks k)) new
       ])
-      (λ k lt. elim (cases_lt (suc k) (get_or (drop keep (line h p)) 0 0)) [
+      (λ k lt. elim (cases_lt (suc k) (get_or (drop keep (log h p)) 0 0)) [
         | inl before_all ↦ ap (λ (m : Mark). m.place) (lose.below k before_all)
         | inr behind ↦ ap (λ (m : Mark). m.place) (lose.above k behind lt)
-            ∙ renewed-place (slice_get h k) (unmarked (drop keep (line h p)) k (mark_at marks k)) new
+            ∙ renewed-place (slice_get h k) (unmarked (drop keep (log h p)) k (mark_at marks k)) new
       ])
       counted
 ] where
   w' : CausesComeFirst (h ++ notes.Cut p keep ∷ [])
   w' = CausesComeFirst-push h (notes.Cut p keep) a.causes may
 
--- what stands behind the keep in the table is what the cut takes out of the line
+-- what stands behind the keep in the table is what the cut takes out of the log
 pub behind-is : (h : List Note) (rows : List (List ℕ)) (marks : List Mark) (lost : ℕ) → Agrees h rows marks lost → (p : NodeId) (i keep : ℕ) (numbers : List ℕ)
-    → i ≡ node_index p → numbers ≡ drop keep (row_at rows i) → numbers ≡ drop keep (line h p)
+    → i ≡ node_index p → numbers ≡ drop keep (row_at rows i) → numbers ≡ drop keep (log h p)
 behind-is h rows marks lost a p i keep numbers place e =
-    e ∙ ap (λ j. drop keep (row_at rows j)) place ∙ ap (drop keep) (a.lines p)
+    e ∙ ap (λ j. drop keep (row_at rows j)) place ∙ ap (drop keep) (a.logs p)
 
-pub AreLost-at : (h h' : List Note) (p : NodeId) (keep : ℕ) (numbers : List ℕ) → h' ≡ h → numbers ≡ drop keep (line h p) → 0 < length numbers
+pub AreLost-at : (h h' : List Note) (p : NodeId) (keep : ℕ) (numbers : List ℕ) → h' ≡ h → numbers ≡ drop keep (log h p) → 0 < length numbers
     → AreLost h' numbers
 AreLost-at h h' p keep numbers e f some =
     let P : List Note → Type 0 = λ x. AreLost x numbers in
@@ -217,7 +218,7 @@ AreLost-at h h' p keep numbers e f some =
 
 -- a cut more, as it is written down
 pub Agrees-pushed_cut : (h h' : List Note) (rows rows' : List (List ℕ)) (marks marks' new : List Mark) (lost more : ℕ) (p : NodeId) (i keep : ℕ)
-    (numbers : List ℕ) → Agrees h rows marks lost → MayFollow h (notes.Cut p keep) → h' ≡ h → marks' ≡ marks → i ≡ node_index p → numbers ≡ drop keep (line h p)
+    (numbers : List ℕ) → Agrees h rows marks lost → MayFollow h (notes.Cut p keep) → h' ≡ h → marks' ≡ marks → i ≡ node_index p → numbers ≡ drop keep (log h p)
     → rows' ≡ set rows i (take keep (row_at rows i)) → (length numbers ≡ 0 → new ≡ marks') → (0 < length numbers → HasLost h' numbers marks' new)
     → more ≡ lost_among h' new → Agrees (h ++ notes.Cut p keep ∷ []) rows' (new ++ no_mark ∷ []) more
 Agrees-pushed_cut h h' rows rows' marks marks' new lost more p i keep numbers a may e f place is_numbers is_rows none some counted =
@@ -227,7 +228,7 @@ Agrees-pushed_cut h h' rows rows' marks marks' new lost more p i keep numbers a 
     (Agrees-cut h rows marks new lost more p keep a may
     (λ nothing. none (ap length is_numbers ∙ nothing) ∙ f)
     (λ something.
-    let Q : List Note → Type 0 = λ x. HasLost x (drop keep (line h p)) marks new in
+    let Q : List Note → Type 0 = λ x. HasLost x (drop keep (log h p)) marks new in
     let R : List ℕ → Type 0 = λ xs. HasLost h' xs marks new in
     let S : List Mark → Type 0 = λ ms. HasLost h' numbers ms new in
     subst Q e (subst R is_numbers (subst S f (some (omega (arith, something, ap length is_numbers))))))

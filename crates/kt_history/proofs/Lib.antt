@@ -1,5 +1,5 @@
 pub mod Lists
-pub mod Lines
+pub mod Logs
 pub mod Places
 pub mod Pasts
 pub mod Survivors

@@ -1,4 +1,5 @@
 -- How marks change, one at a time.
+-- Cited by Counts, KeepingActs, KeepingCuts, `mark::count_lost`, `mark::lose_some`, `mark::renew`, `mark::unmark`.
 use Rattle.std.proofs.Common.{◌≡◌, ℕ, zero, suc, ◌+◌, ◌-◌, ◌<◌, ◌≤◌, ◌==◌, ◌&&◌, ◌||◌, not, Bool, true, false, cond, List, [], ◌∷◌, ◌++◌}
 use Rattle.std.proofs.Common.{take, drop, set, length, get_or, Option, None, Some, refl, sym, ap, ◌∙◌, subst, inl, inr, arith, add-zero}
 use Rattle.std.specs.List.{slice_get, list_any}
@@ -10,8 +11,8 @@ use Rattle.std.proofs.Math.Bool.{and-false, and-true, or-false, or-true}
 use Rattle.kt_history.specs.declared.note.Note.{Note}
 use Rattle.kt_history.specs.declared.note.Note.TheVariants as notes
 use Rattle.kt_history.specs.declared.mark.Mark.{Mark}
-use Rattle.kt_history.specs.inner.Marks.{mark_at, no_mark, lasts_in, unmarked, renewed, LooksBack, AreMarksOf}
-use Rattle.kt_history.specs.inner.Marks.{IsRenewed, IsUnmarked, AreLost, HasLost, lost_among, is_lost}
+use Rattle.kt_history.specs.auxiliary.Marks.{mark_at, no_mark, lasts_in, unmarked, renewed, LooksBack, AreMarksOf}
+use Rattle.kt_history.specs.auxiliary.Marks.{IsRenewed, IsUnmarked, AreLost, HasLost, lost_among, is_lost}
 
 -- one more number is lost
 pub unmarked-push : (xs : List ℕ) (n k : ℕ) (m : Mark)

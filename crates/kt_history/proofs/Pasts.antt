@@ -1,21 +1,23 @@
 -- What happened before what.
+-- Cited by Changes, Keeping, KeepingActs, KeepingCuts, Sense, Survivors, `laws::happened_before_is_transitive`;
+--   kt_ckpt, kt_model.
 use Rattle.std.proofs.Common.{◌≡◌, ℕ, ◌<◌, ◌≤◌, List, [], ◌∷◌, ◌++◌, length, Some, sym, ◌∙◌, subst, inl, inr, arith, Contains}
 use Rattle.kt_history.specs.declared.note.Note.{Note}
 use Rattle.kt_history.specs.declared.note.Note.TheVariants as notes
-use Rattle.kt_history.specs.Line.{note_at, before, IsAct, line}
-use Rattle.kt_history.specs.Past.{StoodBefore, IsCauseOf, InPast, itself, in_line, by_cause}
+use Rattle.kt_history.specs.Log.{note_at, before, IsAct, log}
+use Rattle.kt_history.specs.Past.{StoodBefore, IsCauseOf, InPast, itself, in_log, by_cause}
 use Rattle.kt_history.specs.WellFormed.{MayFollow, CausesComeFirst}
-use Rattle.kt_history.proofs.Lines.{note_at-old, note_at-within, note_at-push_cases, note_before, before-old, before-new, line-own}
+use Rattle.kt_history.proofs.Logs.{note_at-old, note_at-within, note_at-push_cases, note_before, before-old, before-new, log-own}
 
 -- happened-before is transitive
 pub InPast-trans : (h : List Note) (d : ℕ) {e f : ℕ} → InPast h d e → InPast h e f → InPast h d f
 InPast-trans h d p itself = p
-InPast-trans h d p (in_line s q) = in_line s (InPast-trans h d p q)
+InPast-trans h d p (in_log s q) = in_log s (InPast-trans h d p q)
 InPast-trans h d p (by_cause s q) = by_cause s (InPast-trans h d p q)
 
 pub StoodBefore-act : (h : List Note) (g f : ℕ) → StoodBefore h g f → (g < f) × IsAct h g
 StoodBefore-act h g f s =
-    let own = line-own (before h f) s.act.node g s.stood in
+    let own = log-own (before h f) s.act.node g s.stood in
     let at = note_before h f (notes.Act s.act) g (notes.Act own.act) s.is_act own.is_act in
     (at.0, (own.act, at.1))
 
@@ -30,7 +32,7 @@ IsCauseOf-act h w g f c =
 -- the past goes back to smaller numbers, which name acts
 pub InPast-back : (h : List Note) → CausesComeFirst h → (e : ℕ) {f : ℕ} → IsAct h f → InPast h e f → (e ≤ f) × IsAct h e
 InPast-back h w e a itself = (omega arith, a)
-InPast-back h w e a (in_line {g} {f} s q) =
+InPast-back h w e a (in_log {g} {f} s q) =
     let back = StoodBefore-act h g f s in
     let rest = InPast-back h w e back.1 q in
     (omega (arith, back.0, rest.0), rest.1)
@@ -42,7 +44,7 @@ InPast-back h w e a (by_cause {g} {f} s q) =
 -- one more note changes nothing of the past of the acts before it
 pub StoodBefore-old : (h g : List Note) (e f : ℕ) → f ≤ length h → StoodBefore h e f → StoodBefore (h ++ g) e f
 StoodBefore-old h g e f le s =
-    let P : List Note → Type 0 = λ past. Contains (line past s.act.node) e in
+    let P : List Note → Type 0 = λ past. Contains (log past s.act.node) e in
     record {
       act = s.act;
       is_act = note_at-old h g f le ∙ s.is_act;
@@ -51,7 +53,7 @@ StoodBefore-old h g e f le s =
 
 pub StoodBefore-was : (h g : List Note) (e f : ℕ) → f ≤ length h → StoodBefore (h ++ g) e f → StoodBefore h e f
 StoodBefore-was h g e f le s =
-    let P : List Note → Type 0 = λ past. Contains (line past s.act.node) e in
+    let P : List Note → Type 0 = λ past. Contains (log past s.act.node) e in
     record {
       act = s.act;
       is_act = sym (note_at-old h g f le) ∙ s.is_act;
@@ -71,18 +73,18 @@ act_within h n a = (note_at-within h n (notes.Act a.0) a.1).1
 
 pub InPast-old : (h g : List Note) → CausesComeFirst h → (e : ℕ) {f : ℕ} → f ≤ length h → InPast h e f → InPast (h ++ g) e f
 InPast-old h g w e le itself = itself
-InPast-old h g w e le (in_line {g = d} {f} s q) =
+InPast-old h g w e le (in_log {g = d} {f} s q) =
     let back = StoodBefore-act h d f s in
-    in_line (StoodBefore-old h g d f le s) (InPast-old h g w e (act_within h d back.1) q)
+    in_log (StoodBefore-old h g d f le s) (InPast-old h g w e (act_within h d back.1) q)
 InPast-old h g w e le (by_cause {g = d} {f} s q) =
     let back = IsCauseOf-act h w d f s in
     by_cause (IsCauseOf-old h g d f le s) (InPast-old h g w e (act_within h d back.1) q)
 
 pub InPast-was : (h g : List Note) → CausesComeFirst h → (e : ℕ) {f : ℕ} → f ≤ length h → InPast (h ++ g) e f → InPast h e f
 InPast-was h g w e le itself = itself
-InPast-was h g w e le (in_line {g = d} {f} s q) =
+InPast-was h g w e le (in_log {g = d} {f} s q) =
     let was = StoodBefore-was h g d f le s in
-    in_line was (InPast-was h g w e (act_within h d (StoodBefore-act h d f was).1) q)
+    in_log was (InPast-was h g w e (act_within h d (StoodBefore-act h d f was).1) q)
 InPast-was h g w e le (by_cause {g = d} {f} s q) =
     let was = IsCauseOf-was h g d f le s in
     by_cause was (InPast-was h g w e (act_within h d (IsCauseOf-act h w d f was).1) q)

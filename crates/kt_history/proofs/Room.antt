@@ -1,4 +1,6 @@
 -- What a history shows to callers, and what room it has.
+-- Cited by `History::add_act`, `History::add_cut`, `History::lost_count`, `History::make_room`, `History::survives`,
+--   `History::survivors`.
 use Rattle.std.proofs.Common.{◌≡◌, ℕ, zero, suc, ◌<◌, ◌≤◌, List, [], ◌∷◌, map, length, get_or, sym, ap, ◌∙◌, refl, inl, inr, arith, vec_len, vec_capacity}
 use Rattle.std.specs.Prelude.{min}
 use Rattle.std.specs.declared.vec.Vec.{Vec}

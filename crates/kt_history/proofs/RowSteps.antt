@@ -1,11 +1,12 @@
 -- How a table of rows changes, one row at a time.
+-- Cited by Keeping, `rows::append`, `rows::reserve_row`, `rows::shorten_at`.
 use Rattle.std.proofs.Common.{◌≡◌, ℕ, ◌<◌, List, [], length, get_or, set, sym, ap, ◌∙◌, subst, inl, inr, arith}
 use Rattle.std.specs.declared.vec.Vec.{Vec}
 use Rattle.std.specs.declared.alloc.Global.{Global}
 use Rattle.std.proofs.lemmas.List.{map-set, get_or-map, get_or-set_same, get_or-set_other}
 use Rattle.std.proofs.lemmas.List.{length-map}
 use Rattle.std.proofs.lemmas.Bool.{cases_eq}
-use Rattle.kt_history.specs.inner.Marks.{rows_of, row_at}
+use Rattle.kt_history.specs.auxiliary.Marks.{rows_of, row_at}
 
 -- the row at a place is that of the vector there
 pub row_at-rows_of : (xs : List (Vec ℕ Global)) (i : ℕ) (v : Vec ℕ Global) → i < length xs → v ≡ get_or xs i v → row_at (rows_of xs) i ≡ v.items

@@ -1,4 +1,6 @@
 -- Runs of the space, whose tuples are known up to their order.
+-- Cited by `laws::a_run_has_one_space`, `space::serve`, `space::space_of`, `space::withdraw`; kt_logs, kt_resume,
+--   kt_scene.
 use Rattle.std.proofs.Common.{◌≡◌, ℕ, ◌+◌, ◌<◌, ◌≤◌, Bool, true, false, cond, List, [], ◌∷◌, ◌++◌, take, drop, length, get_or}
 use Rattle.std.proofs.Common.{sum_by, Contains, IsPermutation, Option, Some, None, Result, Ok, Err, sym, refl, ap, ◌∙◌, subst, arith}
 use Rattle.std.specs.Prelude.{OnOk}
@@ -19,7 +21,7 @@ use Rattle.kt_tuple.specs.Matching.{Matches, MatchesOnly}
 use Rattle.kt_tuple.specs.Space.{SpaceStep, RunsFrom}
 use Rattle.kt_space.specs.Picking.{matching, without_match}
 use Rattle.kt_space.proofs.Shared.{takes_out, match_permutes, nothing_matches}
-use Rattle.kt_history.specs.inner.Taking.{CanStep, IsThere, TakesOut}
+use Rattle.kt_history.specs.auxiliary.Taking.{CanStep, IsThere, TakesOut}
 use Rattle.kt_history.proofs.Lists.{Contains-here, Contains-there}
 
 -- how often a tuple is among tuples

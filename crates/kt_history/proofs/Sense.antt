@@ -1,4 +1,6 @@
 -- Histories that make sense: how they grow, and that without a cut nothing is lost.
+-- Cited by `laws::nothing_is_lost_without_a_cut`, `laws::the_past_goes_back_step_by_step`,
+--   `laws::well_formed_histories_grow`; kt_model, kt_refinement.
 use Rattle.std.proofs.Common.{◌≡◌, ◌≢◌, ℕ, suc, List, [], ◌∷◌, ◌++◌, length, Option, None, Some, refl, sym, ap, ◌∙◌, subst, ◌⊎◌, inl, inr, arith, Contains}
 use Rattle.std.proofs.lemmas.List.Elements.{Contains-push}
 use Rattle.kt_tuple.specs.declared.node.NodeId.{NodeId}
@@ -9,12 +11,12 @@ use Rattle.kt_history.specs.declared.note.What.TheVariants as whats
 use Rattle.kt_history.specs.declared.note.Act.{Act}
 use Rattle.kt_history.specs.declared.note.Note.{Note}
 use Rattle.kt_history.specs.declared.note.Note.TheVariants as notes
-use Rattle.kt_history.specs.Line.{note_at, before, IsAct, line, last_of}
-use Rattle.kt_history.specs.Past.{InPast, itself, in_line, by_cause}
+use Rattle.kt_history.specs.Log.{note_at, before, IsAct, log, last_of}
+use Rattle.kt_history.specs.Past.{InPast, itself, in_log, by_cause}
 use Rattle.kt_history.specs.WellFormed.{MayFollow, CausesComeFirst, HeardRequest, HeardReply, IgnoredFits, ActFits, Fits, IsWellFormed, HasNoCut}
 use Rattle.kt_history.specs.Survival.{Stands, Survives}
 use Rattle.kt_history.proofs.Lists.{snoc_ind}
-use Rattle.kt_history.proofs.Lines.{line-own_act, note_at-old, note_at-new, note_at-within, note_at-push_cases, before-old, before-new}
+use Rattle.kt_history.proofs.Logs.{log-own_act, note_at-old, note_at-new, note_at-within, note_at-push_cases, before-old, before-new}
 use Rattle.kt_history.proofs.Pasts.{InPast-back}
 use Rattle.kt_history.proofs.Changes.{Stands-act_old, StoodBefore-last, StoodBefore-from_last}
 
@@ -76,37 +78,37 @@ Stands-no_cut h n = snoc_ind (λ g. HasNoCut g → IsAct g n → Stands g n) (λ
         (ih (record { none = λ k p keep e. none.none k p keep (note_at-old g (notes.Act b ∷ []) k (note_at-within g k (notes.Cut p keep) e).1 ∙ e) })
         (a.0, old.1))
     | inr new ↦
-        let P : ℕ → Type 0 = λ k. Contains (line (g ++ notes.Act b ∷ []) b.node) k in
+        let P : ℕ → Type 0 = λ k. Contains (log (g ++ notes.Act b ∷ []) b.node) k in
         let Q : List ℕ → Type 0 = λ xs. Contains xs (suc (length g)) in
-        (b.node, subst P (sym new.0) (subst Q (sym (line-own_act g b)) (Contains-push (line g b.node) (suc (length g)))))
+        (b.node, subst P (sym new.0) (subst Q (sym (log-own_act g b)) (Contains-push (log g b.node) (suc (length g)))))
   ]
 
 -- without a cut every act survives
 pub Survives-no_cut : (h : List Note) → CausesComeFirst h → HasNoCut h → (n : ℕ) → IsAct h n → Survives h n
 Survives-no_cut h w none n a = λ e p lost. lost (Stands-no_cut h e none (InPast-back h w e a p).1)
 
--- the past of an act, one step back: the act, the past of the act before it in its line, the past of its cause
+-- the past of an act, one step back: the act, the past of the act before it in its log, the past of its cause
 pub record PastByStep (h : List Note) (e f : ℕ) (a : Act) : Type 0 where
   pub here : e ≡ f → InPast h e f
-  pub previous : last_of (line (before h f) a.node) ≢ 0 → InPast h e (last_of (line (before h f) a.node)) → InPast h e f
+  pub previous : last_of (log (before h f) a.node) ≢ 0 → InPast h e (last_of (log (before h f) a.node)) → InPast h e f
   pub cause : a.by ≢ 0 → InPast h e a.by → InPast h e f
-  pub only : InPast h e f → (e ≡ f) ⊎ (InPast h e (last_of (line (before h f) a.node)) ⊎ InPast h e a.by)
+  pub only : InPast h e f → (e ≡ f) ⊎ (InPast h e (last_of (log (before h f) a.node)) ⊎ InPast h e a.by)
 
 pub PastByStep-of : (h : List Note) (e f : ℕ) (a : Act) → note_at h f ≡ Some (notes.Act a) → PastByStep h e f a
 PastByStep-of h e f a is_act = record {
   here = λ same. let P : ℕ → Type 0 = λ g. InPast h e g in subst P same itself;
-  previous = λ some p. in_line (StoodBefore-from_last h f a is_act some) p;
+  previous = λ some p. in_log (StoodBefore-from_last h f a is_act some) p;
   cause = λ some p. by_cause (record { act = a; is_act = is_act; names = refl; some = some }) p;
   only = λ p. go p is_act;
 } where
-  go : {g : ℕ} → InPast h e g → note_at h g ≡ Some (notes.Act a) → (e ≡ g) ⊎ (InPast h e (last_of (line (before h g) a.node)) ⊎ InPast h e a.by)
+  go : {g : ℕ} → InPast h e g → note_at h g ≡ Some (notes.Act a) → (e ≡ g) ⊎ (InPast h e (last_of (log (before h g) a.node)) ⊎ InPast h e a.by)
   go itself at = inl refl
-  go (in_line {g = d} {f = g} s q) at =
+  go (in_log {g = d} {f = g} s q) at =
       let same : s.act ≡ a = let both : Some (notes.Act s.act) ≡ Some (notes.Act a) = sym s.is_act ∙ at in cc in
-      let P : Act → Type 0 = λ b. Contains (line (before h g) b.node) d in
+      let P : Act → Type 0 = λ b. Contains (log (before h g) b.node) d in
       elim (StoodBefore-last h d g a at (subst P same s.stood)) [
         | inl last ↦ let Q : ℕ → Type 0 = λ k. InPast h e k in inr (inl (subst Q last q))
-        | inr below ↦ inr (inl (in_line below q))
+        | inr below ↦ inr (inl (in_log below q))
       ]
   go (by_cause {g = d} {f = g} s q) at =
       let same : s.act ≡ a = let both : Some (notes.Act s.act) ≡ Some (notes.Act a) = sym s.is_act ∙ at in cc in

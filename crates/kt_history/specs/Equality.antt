@@ -1,4 +1,5 @@
 -- When two acts or two notes are one, as tests that compute, and that these tests decide equality.
+-- Cited by equality.rt.
 use Rattle.std.specs.Prelude.{◌≡◌, ℕ, Bool, true, false, refl, ◌&&◌, nat_eq, Option, None, Some}
 use Rattle.std.specs.Bool.{Decides}
 use Rattle.std.specs.Cmp.{unsigned_Decides}

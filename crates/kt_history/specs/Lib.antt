@@ -1,4 +1,4 @@
-pub mod Line
+pub mod Log
 pub mod Place
 pub mod Past
 pub mod Survival
@@ -7,4 +7,4 @@ pub mod Closed
 pub mod Run
 pub mod Chronicle
 pub mod Equality
-pub mod inner
+pub mod auxiliary

@@ -1,4 +1,7 @@
 -- What of a history lasts: the acts with nothing lost in their past, and the services among them.
+-- Cited by Changes, Counts, Fronts, Keeping, KeepingActs, KeepingCuts, Sense, Survivors, history.rt, laws.rt,
+--   note.rt, specs/Closed, specs/auxiliary/Marks, `History::lost_count`, `History::survives`, `History::survivors`,
+--   `laws::survivors_are_fronts`; kt_logs, kt_model, kt_refinement, kt_scene.
 use Rattle.std.specs.Prelude.{◌≡◌, ◌↔◌, IsTrue, ℕ, zero, suc, ◌==◌, Bool, true, false, not, ◌&&◌}
 use Rattle.std.specs.Prelude.{if◌then◌else◌, List, [], ◌∷◌, Option, None, Some, length, Contains}
 use Rattle.std.specs.List.{filter_map, list_any, list_all}
@@ -9,14 +12,14 @@ use Rattle.kt_history.specs.declared.note.What.TheVariants as whats
 use Rattle.kt_history.specs.declared.note.Act.{Act}
 use Rattle.kt_history.specs.declared.note.Note.{Note}
 use Rattle.kt_history.specs.declared.note.Note.TheVariants as notes
-use Rattle.kt_history.specs.Line.{note_at, before, line}
+use Rattle.kt_history.specs.Log.{note_at, before, log}
 use Rattle.kt_history.specs.Past.{InPast}
 
--- the act e is remembered: it stands in some node's line
+-- the act e is remembered: it stands in some node's log
 abbrev pub Stands : List Note → ℕ → Type 0
-Stands h e = (p : NodeId) × Contains (line h p) e
+Stands h e = (p : NodeId) × Contains (log h p) e
 
--- e stands in no line: of an act that was made, a cut took it out of its line. A number that names no act, and that of
+-- e stands in no log: of an act that was made, a cut took it out of its log. A number that names no act, and that of
 -- a cut, stand in none either; but these are in no act's past.
 abbrev pub IsLost : List Note → ℕ → Type 0
 IsLost h e = ¬ Stands h e
@@ -25,16 +28,16 @@ IsLost h e = ¬ Stands h e
 abbrev pub Survives : List Note → ℕ → Type 0
 Survives h f = (e : ℕ) → InPast h e f → ¬ IsLost h e
 
--- the act of this number stands in its node's line: a test that computes
+-- the act of this number stands in its node's log: a test that computes
 abbrev pub note_stands : List Note → ℕ → Option Note → Bool
 note_stands h n None = false
-note_stands h n (Some (notes.Act a)) = list_any (λ m. m == n) (line h a.node)
+note_stands h n (Some (notes.Act a)) = list_any (λ m. m == n) (log h a.node)
 note_stands h n (Some (notes.Cut p keep)) = false
 
--- the acts one step back in the past: those in the line before it, and its cause
+-- the acts one step back in the past: those in the log before it, and its cause
 abbrev pub note_causes : List Note → ℕ → Option Note → List ℕ
 note_causes h n None = []
-note_causes h n (Some (notes.Act a)) = if a.by == 0 then line (before h n) a.node else a.by ∷ line (before h n) a.node
+note_causes h n (Some (notes.Act a)) = if a.by == 0 then log (before h n) a.node else a.by ∷ log (before h n) a.node
 note_causes h n (Some (notes.Cut p keep)) = []
 
 -- whether the act n stands, and all acts less than so many steps back in its past

@@ -1,4 +1,6 @@
 -- The histories that make sense: each cause is an earlier act that sent what was heard.
+-- Cited by Changes, Keeping, KeepingActs, KeepingCuts, Pasts, Sense, Survivors, history.rt, laws.rt,
+--   specs/auxiliary/Marks; kt_ckpt, kt_core, kt_logs, kt_model, kt_refinement, kt_resume.
 use Rattle.std.specs.Prelude.{◌≡◌, ◌≢◌, ℕ, ◌≤◌, List, Option, None, Some, length, Contains}
 use Rattle.kt_tuple.specs.declared.node.NodeId.{NodeId}
 use Rattle.kt_tuple.specs.declared.node.NodeId.TheVariants.{Worker, Shard}
@@ -8,12 +10,12 @@ use Rattle.kt_history.specs.declared.note.What.TheVariants as whats
 use Rattle.kt_history.specs.declared.note.Act.{Act}
 use Rattle.kt_history.specs.declared.note.Note.{Note}
 use Rattle.kt_history.specs.declared.note.Note.TheVariants as notes
-use Rattle.kt_history.specs.Line.{note_at, before, line, IsAct}
+use Rattle.kt_history.specs.Log.{note_at, before, log, IsAct}
 
--- the note may follow h: an act's cause is an act of h, and a cut keeps no more than the line has
+-- the note may follow h: an act's cause is an act of h, and a cut keeps no more than the log has
 abbrev pub MayFollow : List Note → Note → Type 0
 MayFollow h (notes.Act a) = a.by ≢ 0 → IsAct h a.by
-MayFollow h (notes.Cut p keep) = keep ≤ length (line h p)
+MayFollow h (notes.Cut p keep) = keep ≤ length (log h p)
 
 -- each note may follow those before it
 pub record CausesComeFirst (h : List Note) : Type 0 where
@@ -56,10 +58,10 @@ pub record HeardReply (h : List Note) (a : Act) (answer : Answer) : Type 0 where
   pub answering : IsAnswering cause.what answer
   pub same : SameRequest a cause
 
--- the request of a was served so before, and that stands in the line of a's node
+-- the request of a was served so before, and that stands in the log of a's node
 pub record WasServed (h : List Note) (a : Act) (answer : Answer) : Type 0 where
   pub service : ℕ
-  pub stands : Contains (line h a.node) service
+  pub stands : Contains (log h a.node) service
   pub act : Act
   pub is_act : note_at h service ≡ Some (notes.Act act)
   pub served : act.what ≡ whats.Served answer
@@ -84,7 +86,7 @@ ActFits h a (whats.Ignored answer) = IgnoredFits h a a.node answer
 -- the note makes sense after h
 abbrev pub Fits : List Note → Note → Type 0
 Fits h (notes.Act a) = ActFits h a a.what
-Fits h (notes.Cut p keep) = keep ≤ length (line h p)
+Fits h (notes.Cut p keep) = keep ≤ length (log h p)
 
 -- each note makes sense after those before it
 pub record IsWellFormed (h : List Note) : Type 0 where

@@ -1,4 +1,5 @@
 //! That `==` of notes, acts and what was done is equality, by the law of `kt_tuple::Equality`.
+//! Cited by whoever calls the trait `Equality`.
 
 ghost use Rattle.std.proofs.Common.{rules};
 ghost use Rattle.std.specs.Cmp.Rules.{comparing};

@@ -1,12 +1,13 @@
-//! Histories: what happened, each node's line, and what survives.
+//! Histories: what happened, each node's log, and what survives.
+//! Cited by kt_ckpt, kt_core, kt_memory_tests, kt_node, kt_resume, kt_scene.
 
 ghost use Rattle.std.specs.Prelude.{◌≡◌, ◌≤◌, ◌↔◌, ◌∷◌, ◌++◌, [], IsTrue, IfOk, OnOk, OnErr};
 ghost use Rattle.std.specs.Option.{option_copied};
 ghost use Rattle.kt_history.specs.Closed.{act_of};
-ghost use Rattle.kt_history.specs.Line.{IsAct, line, note_at};
+ghost use Rattle.kt_history.specs.Log.{IsAct, log, note_at};
 ghost use Rattle.kt_history.specs.Place.{place};
 ghost use Rattle.kt_history.specs.Survival.{AreSurvivors, IsLostCount, Survives, services, lost_count};
-ghost use Rattle.kt_history.specs.inner.Marks.{kept_service};
+ghost use Rattle.kt_history.specs.auxiliary.Marks.{kept_service};
 ghost use Rattle.kt_history.specs.Chronicle.{node_of, room_of};
 ghost use Rattle.kt_history.specs.WellFormed.{CausesComeFirst, MayFollow};
 
@@ -17,14 +18,14 @@ use kt_tuple::{NodeId, Service};
 use std::alloc::{AllocError, Global};
 use std::marker::Model;
 
-/// What happened: the notes, oldest first, numbered from 1. It keeps each node's line and what survives,
+/// What happened: the notes, oldest first, numbered from 1. It keeps each node's log and what survives,
 /// so that both are known without a look at the notes.
 #[derive(Debug, Drop)]
 pub struct History {
     /// The notes, oldest first; the first has the number 1.
     notes: Vec<Note>,
-    /// Each node's log (`line`), by `NodeId::index`, as numbers of acts.
-    lines: Rows,
+    /// Each node's log, by `NodeId::index`, as numbers of acts.
+    logs: Rows,
     /// One mark for each note.
     marks: Vec<Mark>,
     /// How many services do not survive.
@@ -33,25 +34,25 @@ pub struct History {
 
 impl Model for History {
     ghost use Rattle.kt_history.specs.Chronicle.{Chronicle, chronicle};
-    ghost use Rattle.kt_history.specs.inner.Marks.{rows_of, Agrees};
+    ghost use Rattle.kt_history.specs.auxiliary.Marks.{rows_of, Agrees};
 
     ghost Value = { Chronicle };
 
-    ghost view = { λ h. chronicle h.notes h.marks h.lines.items };
+    ghost view = { λ h. chronicle h.notes h.marks h.logs.items };
 
-    ghost invariant = { λ h. Agrees h.notes.items (rows_of h.lines.items) h.marks.items h.lost };
+    ghost invariant = { λ h. Agrees h.notes.items (rows_of h.logs.items) h.marks.items h.lost };
 }
 
 impl History {
     ghost use Rattle.kt_history.specs.declared.note.Note.TheVariants as notes;
 
-    /// The history of nothing: no note, and all lines empty.
+    /// The history of nothing: no note, and all logs empty.
     pub fn new(alloc: Global) -> History
         ensures { result.notes ≡ [] }
     {
         History {
             notes: Vec::new(alloc),
-            lines: Vec::new(alloc),
+            logs: Vec::new(alloc),
             marks: Vec::new(alloc),
             lost: 0,
         }
@@ -78,7 +79,7 @@ impl History {
         }
     }
 
-    /// Where the act of this number stood in its node's line when it was added, counted from 1; none where the
+    /// Where the act of this number stood in its node's log when it was added, counted from 1; none where the
     /// number names no act.
     pub fn place(&self, number: u64) -> Option<u64>
         ensures { result ≡ place self.now.notes number }
@@ -89,10 +90,10 @@ impl History {
 
     /// The numbers of the node's acts that were not cut off, oldest first.
     pub fn line(&self, node: NodeId) -> &[u64]
-        ensures { result.now ≡ line self.now.notes node }
+        ensures { result.now ≡ log self.now.notes node }
     {
-        match self.lines.get(node.index()) {
-            Some(line) => line,
+        match self.logs.get(node.index()) {
+            Some(log) => log,
             None => &[],
         }
     }
@@ -107,7 +108,7 @@ impl History {
     }
 
     /// Whether the note may come next: an act's cause is an act of the history, and a cut keeps no more
-    /// than the line has.
+    /// than the log has.
     pub fn may_follow(&self, note: &Note) -> bool
         ensures { IsTrue result ↔ MayFollow self.now.notes note.now }
     {
@@ -121,7 +122,7 @@ impl History {
     /// stay as they were.
     ///
     /// An act costs the same however long the history is. A cut looks once at each note from the first act that it
-    /// takes out of its line on. So filling is linear where cuts take what is new. It is quadratic where each cut keeps
+    /// takes out of its log on. So filling is linear where cuts take what is new. It is quadratic where each cut keeps
     /// less than the one before, so that it goes back further.
     pub fn push(&mut self, note: Note) -> Result<(), AllocError>
         requires { MayFollow self.old.notes note }
@@ -141,7 +142,7 @@ impl History {
     {
         self.notes.reserve(1)?;
         self.marks.reserve(1)?;
-        reserve_row(&mut self.lines, node.index())
+        reserve_row(&mut self.logs, node.index())
     }
 
     /// Appends a note that may follow and that there is room for, as `make_room` makes it. It takes no memory.
@@ -163,12 +164,12 @@ impl History {
     {
         let place = act.node.index();
         let number = self.notes.len() as u64 + 1;
-        let previous = last_number(&self.lines[place]);
-        let spot = next_place(&self.lines[place]);
+        let previous = last_number(&self.logs[place]);
+        let spot = next_place(&self.logs[place]);
         let mark = act_mark(&self.marks, previous, act.by, spot);
         let note = Note::Act(act);
         self.lost = lost_with(self.lost, &note, mark);
-        append(&mut self.lines, place, number);
+        append(&mut self.logs, place, number);
         self.marks.push_reserved(mark);
         self.notes.push_reserved(note);
     }
@@ -180,9 +181,9 @@ impl History {
     {
         let place = node.index();
         let kept = keep as usize;
-        let lost = behind(&self.lines, place, kept);
+        let lost = behind(&self.logs, place, kept);
         self.lost = lose(&self.notes, &mut self.marks, lost, self.lost);
-        shorten(&mut self.lines, place, kept);
+        shorten(&mut self.logs, place, kept);
         self.marks.push_reserved(Mark::NONE);
         self.notes.push_reserved(Note::Cut { node, keep });
     }

@@ -1,4 +1,5 @@
 //! Laws about the definitions, each the contract of a function with nothing to do.
+//! Cited by no other file of crates/.
 
 ghost use Rattle.std.specs.Prelude.{◌≡◌, ◌≢◌, ◌⊎◌, ◌↔◌, ◌++◌, ◌∷◌, [], ℕ, Bool, IsTrue};
 ghost use Rattle.std.specs.Prelude.{List, Some, take, slice_get, IsPermutation};
@@ -9,7 +10,7 @@ ghost use Rattle.kt_tuple.specs.Space.{IsSpaceRun};
 ghost use Rattle.kt_history.specs.declared.note.Act.{Act};
 ghost use Rattle.kt_history.specs.declared.note.Note.{Note};
 ghost use Rattle.kt_history.specs.declared.note.Note.TheVariants as notes;
-ghost use Rattle.kt_history.specs.Line.{IsAct, before, line, note_at, last_of};
+ghost use Rattle.kt_history.specs.Log.{IsAct, before, log, note_at, last_of};
 ghost use Rattle.kt_history.specs.Past.{InPast};
 ghost use Rattle.kt_history.specs.Survival.{Survives, marked_acts, survives};
 ghost use Rattle.kt_history.specs.WellFormed.{CausesComeFirst, Fits, HasNoCut, IsWellFormed, MayFollow};
@@ -20,17 +21,17 @@ pub fn happened_before_is_transitive()
     ensures { (h : List Note) (d e f : ℕ) → InPast h d e → InPast h e f → InPast h d f }
 {}
 
-/// The past of an act is the act, the past of the act before it in its line, and the past of its cause.
+/// The past of an act is the act, the past of the act before it in its log, and the past of its cause.
 pub fn the_past_goes_back_step_by_step()
     ensures itself { (h : List Note) (e : ℕ) → InPast h e e }
     ensures previous { (h : List Note) (e f : ℕ) (a : Act)
-        → note_at h f ≡ Some (notes.Act a) → last_of (line (before h f) a.node) ≢ 0
-        → InPast h e (last_of (line (before h f) a.node)) → InPast h e f }
+        → note_at h f ≡ Some (notes.Act a) → last_of (log (before h f) a.node) ≢ 0
+        → InPast h e (last_of (log (before h f) a.node)) → InPast h e f }
     ensures cause { (h : List Note) (e f : ℕ) (a : Act)
         → note_at h f ≡ Some (notes.Act a) → a.by ≢ 0 → InPast h e a.by → InPast h e f }
     ensures nothing_else { (h : List Note) (e f : ℕ) (a : Act)
         → note_at h f ≡ Some (notes.Act a) → InPast h e f
-        → (e ≡ f) ⊎ (InPast h e (last_of (line (before h f) a.node)) ⊎ InPast h e a.by) }
+        → (e ≡ f) ⊎ (InPast h e (last_of (log (before h f) a.node)) ⊎ InPast h e a.by) }
 {}
 
 /// What survives has its whole past surviving.
@@ -48,20 +49,20 @@ pub fn nothing_is_lost_without_a_cut()
     ensures { (h : List Note) → IsWellFormed h → HasNoCut h → (n : ℕ) → IsAct h n → Survives h n }
 {}
 
-/// A line is a stack: what stands before an act in its line is what stood there when it was appended.
-pub fn lines_are_stacks()
+/// A log is a stack: what stands before an act in its log is what stood there when it was appended.
+pub fn logs_are_stacks()
     ensures { (h : List Note) (p : NodeId) (i e : ℕ)
-        → slice_get (line h p) i ≡ Some e → line (before h e) p ≡ take i (line h p) }
+        → slice_get (log h p) i ≡ Some e → log (before h e) p ≡ take i (log h p) }
 {}
 
 /// The survivors hold the whole past of each of them, and the surviving acts of a node are the first of
-/// its line.
+/// its log.
 pub fn survivors_are_fronts()
     ensures closed { (h : List Note) → CausesComeFirst h → IsClosed h (survives h) }
     ensures front { (h : List Note) → CausesComeFirst h → (p : NodeId) → IsFront h (survives h) p }
 {}
 
-/// A closed choice of acts is, of each node's acts, the first of its line, in the order of the line.
+/// A closed choice of acts is, of each node's acts, the first of its log, in the order of the log.
 pub fn closed_choices_are_fronts()
     ensures { (h : List Note) (marks : ℕ → Bool) → IsClosed h marks → (p : NodeId)
         → (f : IsFront h marks p) × (own p (marked_acts marks h) ≡ acts_at h f.front) }

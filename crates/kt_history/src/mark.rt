@@ -1,18 +1,19 @@
 //! What a history keeps of each note, so that it knows what survives without a look at the past.
+//! Cited by history.rt.
 
 ghost use Rattle.std.specs.Prelude.{◌≡◌, if◌then◌else◌, false, ◌+◌, ◌-◌, ◌^◌, ◌<◌, ◌≤◌, ℕ};
 ghost use Rattle.std.specs.Prelude.{length, Contains, slice_get, slice_set, slice_index};
-ghost use Rattle.kt_history.specs.inner.Marks.{act_mark, lasts_in, mark_at, renewed, is_lost, lost_among};
-ghost use Rattle.kt_history.specs.inner.Marks.{LooksBack, AreMarksOf, AreLost, IsUnmarked, IsRenewed, HasLost};
+ghost use Rattle.kt_history.specs.auxiliary.Marks.{act_mark, lasts_in, mark_at, renewed, is_lost, lost_among};
+ghost use Rattle.kt_history.specs.auxiliary.Marks.{LooksBack, AreMarksOf, AreLost, IsUnmarked, IsRenewed, HasLost};
 
 use crate::note::Note;
 
 /// What is kept of one note.
 #[derive(Clone, Copy, Debug, PartialEq, Eq)]
 pub(crate) struct Mark {
-    /// The act that stood last in the node's line before this one, or 0.
+    /// The act that stood last in the node's log before this one, or 0.
     pub(crate) previous: u64,
-    /// Where an act stood in its node's line when it was added, counted from 1.
+    /// Where an act stood in its node's log when it was added, counted from 1.
     pub(crate) place: u64,
     /// Whether it is an act with nothing lost in its past.
     pub(crate) survives: bool,
@@ -35,7 +36,7 @@ fn lasts(marks: &[Mark], number: u64) -> bool
     number == 0 || marks[number as usize - 1].survives
 }
 
-/// The mark of an act that comes next, by the act before it in its line, by its cause and its place.
+/// The mark of an act that comes next, by the act before it in its log, by its cause and its place.
 pub(crate) fn act_mark(marks: &[Mark], previous: u64, cause: u64, place: u64) -> Mark
     requires previous { previous ≤ length marks.now }
     requires cause { cause ≤ length marks.now }

@@ -1,4 +1,5 @@
 //! Notes: what a node did, or gave up.
+//! Cited by equality.rt, history.rt, mark.rt; kt_ckpt, kt_core, kt_node, kt_resume, kt_state.
 
 ghost use Rattle.std.specs.Prelude.{◌≡◌, IfOk};
 
@@ -16,7 +17,7 @@ pub enum What {
     Heard,
     /// A shard served a waiting request and sent this answer.
     Served(Answer),
-    /// A shard heard a request that it had served, and sent the kept answer again.
+    /// A shard heard a request that it had served, and sent the cached answer again.
     Again(Answer),
     /// A worker accepted this answer to what it had asked.
     Accepted(Answer),

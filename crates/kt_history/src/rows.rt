@@ -1,13 +1,14 @@
-//! The lines of the nodes, a row for each.
+//! The logs of the nodes, a row for each.
+//! Cited by history.rt.
 
 ghost use Rattle.std.specs.Prelude.{◌≡◌, ◌∷◌, ◌++◌, [], ℕ, ◌+◌, ◌<◌, take, drop, length, slice_set, vec_len, OnOk};
 ghost use Rattle.kt_tuple.specs.Node.{names};
-ghost use Rattle.kt_history.specs.Line.{last_of};
-ghost use Rattle.kt_history.specs.inner.Marks.{rows_of, row_at, HasRoom, SameRows};
+ghost use Rattle.kt_history.specs.Log.{last_of};
+ghost use Rattle.kt_history.specs.auxiliary.Marks.{rows_of, row_at, HasRoom, SameRows};
 
 use std::alloc::AllocError;
 
-/// For each node, by `NodeId::index`, the numbers of the acts in its line. It has rows up to the last node that room
+/// For each node, by `NodeId::index`, the numbers of the acts in its log. It has rows up to the last node that room
 /// was made for.
 pub(crate) type Rows = Vec<Vec<u64>>;
 

@@ -1,9 +1,10 @@
 //! The tuples that services lead to.
+//! Cited by kt_scene.
 
 ghost use Rattle.std.specs.Prelude.{◌≡◌, ◌∷◌, Contains, IsPermutation, IfOk, OnOk};
 ghost use Rattle.kt_tuple.specs.Space.{SpaceStep, IsSpaceRun};
 ghost use Rattle.kt_history.specs.Run.{IsRun};
-ghost use Rattle.kt_history.specs.inner.Taking.{CanStep, IsThere, TakesOut};
+ghost use Rattle.kt_history.specs.auxiliary.Taking.{CanStep, IsThere, TakesOut};
 
 use kt_space::Bag;
 use kt_tuple::{Answer, Op, Service, Template, Tuple};

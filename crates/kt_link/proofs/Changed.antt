@@ -1,4 +1,5 @@
 -- A queue that is changed in place changes one link of the network.
+-- Cited by `Links::pop`, `Links::push_reserved`, `Links::push`, `Links::reserve`.
 use Rattle.std.proofs.Common.{◌≡◌, ℕ, ◌<◌, List, [], map, length, set, get_or, Option, Some, sym, ap, subst, ◌∙◌, arith}
 use Rattle.std.specs.Prelude.{IfSome}
 use Rattle.std.proofs.Math.Path.{ap₂}
@@ -7,7 +8,7 @@ use Rattle.std.specs.declared.collections.VecDeque.{VecDeque}
 use Rattle.std.specs.declared.alloc.Global.{Global}
 use Rattle.kt_tuple.specs.declared.node.NodeId.{NodeId}
 use Rattle.kt_link.specs.Network.{Network, ChangesOnly, place, queue, room, entry_at, with_entry}
-use Rattle.kt_link.specs.inner.Queues.{network_of, spare}
+use Rattle.kt_link.specs.auxiliary.Queues.{network_of, spare}
 
 -- what a list of entries has at a place that was written
 entry_set : {A : Type 0} (d new : A) (entries : List A) (at : Option ℕ) (k : ℕ) → at ≡ Some k → k < length entries → entry_at d (set entries k new) at ≡ new

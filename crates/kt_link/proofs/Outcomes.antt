@@ -1,4 +1,5 @@
 -- What holds of a queue where a push answered Ok, or an error.
+-- Cited by `Links::push`.
 use Rattle.std.proofs.Common.{◌≡◌, ◌++◌, ◌∷◌, [], List, sym, ap, ◌∙◌, if◌then◌else◌}
 use Rattle.std.specs.Prelude.{Result, Ok, Err, OnOk, OnErr, is_ok}
 

@@ -1,3 +1,3 @@
 pub mod Label
 pub mod Network
-pub mod inner
+pub mod auxiliary

@@ -1,4 +1,6 @@
 -- What the links between workers and shards hold, and where the queue of a pair of nodes stands.
+-- Cited by Changed, Others, Places, laws.rt, links.rt, specs/auxiliary/Queues; kt_core, kt_model, kt_refinement,
+--   kt_stage.
 use Rattle.std.specs.Prelude.{◌≡◌, ℕ, suc, ◌+◌, ◌-◌, ◌*◌, ◌≤◌, ◌&&◌, nat_le, if◌then◌else◌, Bool}
 use Rattle.std.specs.Prelude.{List, [], Option, None, Some, slice_index_or, set}
 use Rattle.std.specs.Option.{option_map}

@@ -1,4 +1,5 @@
 //! Labels of messages.
+//! Cited by laws.rt, tests.rt; kt_ckpt, kt_node, kt_resume, kt_state.
 
 ghost use Rattle.std.specs.Prelude.{◌↔◌, IsTrue};
 

@@ -1,4 +1,5 @@
 //! Laws about labels and links, each the contract of a function with nothing to do.
+//! Cited by no other file of crates/.
 
 ghost use Rattle.std.specs.Prelude.{◌≡◌, ◌⊎◌, ◌↔◌, ◌<◌, ◌*◌, ℕ, Some, IsSome};
 ghost use Rattle.std.specs.declared.cmp.Ordering.TheVariants.{Less, Equal, Greater};

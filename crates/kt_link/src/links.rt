@@ -1,4 +1,5 @@
 //! The links between workers and shards.
+//! Cited by tests.rt; kt_core.
 
 ghost use Rattle.std.specs.Prelude.{◌≡◌, ◌+◌, ◌*◌, ◌<◌, ◌≤◌, ◌↔◌, ◌++◌, ◌∷◌, [], drop, length, map};
 ghost use Rattle.std.specs.Prelude.{replicate, slice_get, IsTrue, IsOk, IfOk, IfErr, IfSome, OnOk, OnErr};
@@ -23,7 +24,7 @@ pub struct Links<M> {
 impl<M> Model for Links<M> {
     ghost use Rattle.std.specs.Prelude.{◌≡◌, ◌*◌, length};
     ghost use Rattle.kt_link.specs.Network.{Network};
-    ghost use Rattle.kt_link.specs.inner.Queues.{network_of};
+    ghost use Rattle.kt_link.specs.auxiliary.Queues.{network_of};
 
     ghost Value = { Network M };
 

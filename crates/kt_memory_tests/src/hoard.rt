@@ -1,4 +1,5 @@
 //! A hoard of memory.
+//! Cited by scenarios.rt, worlds.rt.
 
 use std::alloc::{AllocError, Global};
 

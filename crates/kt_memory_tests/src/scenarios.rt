@@ -1,4 +1,5 @@
 //! Scenarios that are read while memory is refused.
+//! Cited by no other file of crates/.
 
 use crate::hoard::{BLOCKS, hoard_all};
 use kt_scene::{WorkKind, read_scene};

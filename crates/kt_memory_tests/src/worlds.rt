@@ -1,4 +1,5 @@
 //! What a world makes of want of memory.
+//! Cited by no other file of crates/.
 
 use crate::hoard::{BLOCKS, hoard_all};
 use kt_core::{OpenError, OpenRefused, Scene, Step, StepError, World};

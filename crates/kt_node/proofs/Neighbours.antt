@@ -1,4 +1,5 @@
 -- Neighbours stand in node order.
+-- Cited by joining.rt, `joining::neighbours`.
 use Rattle.std.proofs.Common.{◌≡◌, ℕ, zero, suc, ◌+◌, ◌<◌, [], ◌∷◌, ◌++◌, map, All, sym, ap, subst, ◌∙◌, arith}
 use Rattle.std.proofs.lemmas.Bool.{lt-ltb}
 use Rattle.std.proofs.lemmas.List.{map-append}
@@ -7,9 +8,16 @@ use Rattle.std.proofs.lemmas.List.Quantifiers.{all_pairs_push}
 use Rattle.kt_tuple.specs.declared.node.NodeId.{NodeId}
 use Rattle.kt_tuple.specs.declared.node.NodeId.TheVariants as ids
 use Rattle.kt_vote.specs.Order.{IsBefore, IsInOrder}
-use Rattle.kt_node.specs.Labels.{numbers}
-use Rattle.kt_node.specs.Node.{across}
-use Rattle.kt_node.proofs.Numbers.{one_more, mapped_none}
+use Rattle.kt_state.specs.Labels.{numbers}
+use Rattle.kt_state.specs.Node.{across}
+use Rattle.kt_state.proofs.Shared.{one_more, mapped_from_one, mapped_none}
+
+-- as the loop over all neighbours begins and goes on
+pub none_yet : {A : Type 0} (f : ℕ → A) (from : ℕ) → map f (numbers from 0) ≡ []
+none_yet f from = mapped_none f from
+
+pub one_more_yet : {A : Type 0} (f : ℕ → A) (n : ℕ) → map f (numbers 1 (n + 1)) ≡ map f (numbers 1 n) ++ f (n + 1) ∷ []
+one_more_yet f n = mapped_from_one f n
 
 before : (id : NodeId) (m n : ℕ) → m < n → IsBefore (across id m) (across id n)
 before (ids.Worker k) m n lt = lt-ltb m n lt

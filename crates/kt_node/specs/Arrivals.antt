@@ -1,29 +1,31 @@
 -- The table of arrivals: what a control message makes of the node that it comes to. The rules of each message are
 -- tried from the top; a node that is down drops everything.
+-- Cited by arrivals.rt, reaction.rt; kt_model, kt_refinement, kt_stage.
 use Rattle.std.specs.Prelude.{ℕ, ◌==◌, Bool, true, false, ◌&&◌, if◌then◌else◌, Option, None, Some, Ok, Err}
 use Rattle.kt_tuple.specs.declared.node.NodeId.{NodeId}
-use Rattle.kt_ckpt.specs.declared.marks.Marks.{Marks}
+use Rattle.kt_ckpt.specs.declared.header.CkptHeader.{CkptHeader}
 use Rattle.kt_store.specs.declared.rows.Verdict.{Verdict}
 use Rattle.kt_vote.specs.declared.asker.Asker.{Asker}
 use Rattle.kt_vote.specs.declared.vote.Vote.{Vote}
 use Rattle.kt_vote.specs.Poll.{Poll, counts, counted}
-use Rattle.kt_node.specs.declared.message.Ask.{Ask}
-use Rattle.kt_node.specs.declared.live.Phase.{Phase}
-use Rattle.kt_node.specs.declared.live.Phase.TheVariants as phases
-use Rattle.kt_node.specs.declared.change.KeptChange.TheVariants as keeps
-use Rattle.kt_node.specs.declared.change.Change.TheVariants as changes
-use Rattle.kt_node.specs.declared.plan.Plan.{Plan}
+use Rattle.kt_state.specs.declared.message.Ask.{Ask}
+use Rattle.kt_state.specs.declared.live.Phase.{Phase}
+use Rattle.kt_state.specs.declared.live.Phase.TheVariants as phases
+use Rattle.kt_state.specs.declared.change.KeptChange.TheVariants as keeps
+use Rattle.kt_state.specs.declared.change.Change.TheVariants as changes
+use Rattle.kt_state.specs.declared.plan.Plan.{Plan}
 use Rattle.kt_node.specs.declared.reaction.Reaction.{Reaction}
 use Rattle.kt_node.specs.declared.reaction.Reaction.TheVariants as reactions
-use Rattle.kt_node.specs.declared.refusal.Refusal.TheVariants as refusals
-use Rattle.kt_node.specs.Labels.{up_to, label_at, first_at, reaches}
-use Rattle.kt_node.specs.Node.{Live, Node, Down, Alive, node_number}
+use Rattle.kt_state.specs.declared.refusal.Refusal.TheVariants as refusals
+use Rattle.kt_state.specs.Labels.{up_to, label_at, first_at, reaches}
+use Rattle.kt_state.specs.Node.{Live, Node, Down, Alive, node_number}
 use Rattle.kt_node.specs.View.{View}
-use Rattle.kt_node.specs.Stored.{fits, acts_fit, is_undecided, sent_in}
-use Rattle.kt_node.specs.Plan.{Planned, empty_plan, no_turn, turning_to}
-use Rattle.kt_node.specs.Voting.{casting, poll_after, vote_for, votes}
+use Rattle.kt_state.specs.Stored.{fits, acts_fit, is_undecided, sent_in}
+use Rattle.kt_state.specs.Plan.{Planned, empty_plan}
+use Rattle.kt_state.specs.Updating.{no_update, updating_to}
+use Rattle.kt_state.specs.Voting.{casting, poll_after, vote_for, votes}
 use Rattle.kt_node.specs.Joining.{asker_of, join_check_plan, join_rollback_plan}
-use Rattle.kt_node.specs.declared.stored.Stored.{Stored}
+use Rattle.kt_state.specs.declared.stored.Stored.{Stored}
 use Rattle.kt_node.specs.Learning.{held_learns, rolling_learns, verdict_to}
 
 -- ---- an ask
@@ -42,41 +44,41 @@ check_when_up n from ask =
     then reactions.Joins else reactions.Says false
 
 -- held: yes where it is this check, and the tentative checkpoint has sent what the asker received
-abbrev pub check_when_held : Poll → NodeId → Ask → Option Marks → Reaction
+abbrev pub check_when_held : Poll → NodeId → Ask → Option CkptHeader → Reaction
 check_when_held b from ask tentative =
     reactions.Says (is_in b ask.instance && up_to ask.label (sent_in tentative (node_number from)))
 
-abbrev pub check_in : Live → NodeId → Ask → Option Marks → Phase → Reaction
+abbrev pub check_in : Live → NodeId → Ask → Option CkptHeader → Phase → Reaction
 check_in n from ask tentative phases.Up = check_when_up n from ask
 check_in n from ask tentative (phases.Held b) = check_when_held b from ask tentative
 check_in n from ask tentative (phases.Rolling b) = reactions.Says false
 
 -- yes where the permanent checkpoint has sent what the asker received
-abbrev pub check_when_open : Live → NodeId → Ask → Option Marks → Option Marks → Reaction
+abbrev pub check_when_open : Live → NodeId → Ask → Option CkptHeader → Option CkptHeader → Reaction
 check_when_open n from ask permanent tentative =
     if up_to ask.label (sent_in permanent (node_number from)) then reactions.Says true
     else check_in n from ask tentative n.phase
 
 -- no where the check is not open on the board
-abbrev pub check_reaction : Live → NodeId → Ask → Option Verdict → Option Marks → Option Marks → Reaction
+abbrev pub check_reaction : Live → NodeId → Ask → Option Verdict → Option CkptHeader → Option CkptHeader → Reaction
 check_reaction n from ask verdict permanent tentative =
     if is_undecided verdict then check_when_open n from ask permanent tentative else reactions.Says false
 
 -- a vote at once changes nothing of the node
 abbrev pub answer_plan : NodeId → Ask → Bool → Plan
 answer_plan from ask agreed = record {
-  change = changes.Turn no_turn;
+  change = changes.Update no_update;
   send = votes (Some (vote_for ask.instance (asker_of from ask) agreed));
   note = None;
   write = None;
 }
 
-abbrev pub check_plan : View → Live → NodeId → Ask → Option Marks → Reaction → Planned
+abbrev pub check_plan : View → Live → NodeId → Ask → Option CkptHeader → Reaction → Planned
 check_plan v n from ask permanent (reactions.Says agreed) = Ok (answer_plan from ask agreed)
 check_plan v n from ask permanent reactions.Joins =
     if acts_fit v.role v.acts then Ok (join_check_plan v n from ask permanent) else Err refusals.Damaged
 
-abbrev pub check_fitting : View → NodeId → Ask → Option Verdict → Option Marks → Option Marks → Live → Planned
+abbrev pub check_fitting : View → NodeId → Ask → Option Verdict → Option CkptHeader → Option CkptHeader → Live → Planned
 check_fitting v from ask verdict permanent tentative n =
     if fits v.role v.line_len permanent && fits v.role v.line_len tentative
     then check_plan v n from ask permanent (check_reaction n from ask verdict permanent tentative)
@@ -87,7 +89,7 @@ abbrev pub unless_down : Node → (Live → Planned) → Planned
 unless_down Down plan = Ok empty_plan
 unless_down (Alive n) plan = plan n
 
-abbrev pub hear_check : View → NodeId → Ask → Option Verdict → Option Marks → Option Marks → Planned
+abbrev pub hear_check : View → NodeId → Ask → Option Verdict → Option CkptHeader → Option CkptHeader → Planned
 hear_check v from ask verdict permanent tentative =
     unless_down v.node (check_fitting v from ask verdict permanent tentative)
 
@@ -111,18 +113,18 @@ rollback_reaction n from ask verdict =
 -- whatever is answered, what is kept from the asker above the label is dropped
 abbrev pub sieved_answer_plan : NodeId → Ask → Bool → Plan
 sieved_answer_plan from ask agreed = record {
-  change = changes.Turn record no_turn { kept = keeps.Sieve from ask.label };
+  change = changes.Update record no_update { kept = keeps.Sieve from ask.label };
   send = votes (Some (vote_for ask.instance (asker_of from ask) agreed));
   note = None;
   write = None;
 }
 
-abbrev pub rollback_plan : View → Live → NodeId → Ask → Option Marks → Reaction → Planned
+abbrev pub rollback_plan : View → Live → NodeId → Ask → Option CkptHeader → Reaction → Planned
 rollback_plan v n from ask permanent (reactions.Says agreed) = Ok (sieved_answer_plan from ask agreed)
 rollback_plan v n from ask permanent reactions.Joins =
     if fits v.role v.line_len permanent then Ok (join_rollback_plan v n from ask permanent) else Err refusals.Damaged
 
-abbrev pub hear_rollback : View → NodeId → Ask → Option Verdict → Option Marks → Planned
+abbrev pub hear_rollback : View → NodeId → Ask → Option Verdict → Option CkptHeader → Planned
 hear_rollback v from ask verdict permanent =
     unless_down v.node (λ n. rollback_plan v n from ask permanent (rollback_reaction n from ask verdict))
 
@@ -139,7 +141,7 @@ counted_if b from vote = if counts b from vote then Some (behind_own (counted b 
 
 -- the node does this from now on, and casts this vote
 abbrev pub voting_plan : Phase → Option (NodeId × Vote) → Plan
-voting_plan phase own = record { change = turning_to phase; send = votes own; note = None; write = None }
+voting_plan phase own = record { change = updating_to phase; send = votes own; note = None; write = None }
 
 -- what is not counted is ignored
 abbrev pub vote_plan : (Poll → Phase) → Option (Poll × Option (NodeId × Vote)) → Plan

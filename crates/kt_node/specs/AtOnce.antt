@@ -1,4 +1,5 @@
 -- What is said at once, with no plan made of it: the plan that it comes to.
+-- Cited by at_once.rt; kt_core.
 use Rattle.std.specs.Prelude.{ℕ, [], ◌∷◌, None, Some}
 use Rattle.kt_tuple.specs.declared.node.NodeId.{NodeId}
 use Rattle.kt_tuple.specs.declared.op.Op.{Op}
@@ -8,18 +9,18 @@ use Rattle.kt_history.specs.declared.note.Note.{Note}
 use Rattle.kt_history.specs.declared.note.Note.TheVariants as notes
 use Rattle.kt_node.specs.declared.at_once.Again.{Again}
 use Rattle.kt_node.specs.declared.at_once.Said.{Said}
-use Rattle.kt_node.specs.declared.change.Change.TheVariants as changes
-use Rattle.kt_node.specs.declared.message.Talk.TheVariants as talks
-use Rattle.kt_node.specs.declared.message.Message.{Message}
-use Rattle.kt_node.specs.declared.message.Message.TheVariants as messages
-use Rattle.kt_node.specs.declared.plan.Plan.{Plan}
-use Rattle.kt_node.specs.Node.{node_number}
-use Rattle.kt_node.specs.Plan.{no_turn}
+use Rattle.kt_state.specs.declared.change.Change.TheVariants as changes
+use Rattle.kt_state.specs.declared.message.Talk.TheVariants as talks
+use Rattle.kt_state.specs.declared.message.Message.{Message}
+use Rattle.kt_state.specs.declared.message.Message.TheVariants as messages
+use Rattle.kt_state.specs.declared.plan.Plan.{Plan}
+use Rattle.kt_state.specs.Node.{node_number}
+use Rattle.kt_state.specs.Updating.{no_update}
 
 -- the node says one thing, and this is noted; all else of it stays
 abbrev pub saying : NodeId → Message → Note → Plan
 saying to message note = record {
-  change = changes.Turn record no_turn { said = Some to };
+  change = changes.Update record no_update { said = Some to };
   send = (to, message) ∷ [];
   note = Some note;
   write = None;
@@ -27,7 +28,7 @@ saying to message note = record {
 
 -- a request that is asked once more, with its number and its operation, and what is noted of that
 abbrev pub repeat_message : ℕ → Op → Label → ℕ → Message
-repeat_message number op label by = messages.Post record {
+repeat_message number op label by = messages.App record {
   talk = talks.Request record { number = number; op = op };
   label = label;
   by = by;

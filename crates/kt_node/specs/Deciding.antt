@@ -1,45 +1,47 @@
 -- The table of steps, those of checks and rollbacks: what a node may do of itself, and why it may not. Of several
 -- refusals the lowest is given.
+-- Cited by deciding.rt; kt_core, kt_model, kt_refinement, kt_stage.
 use Rattle.std.specs.Prelude.{ℕ, Bool, true, false, ◌&&◌, if◌then◌else◌, List, [], Option, None, Some, Ok, Err}
 use Rattle.kt_tuple.specs.declared.node.NodeId.{NodeId}
-use Rattle.kt_ckpt.specs.declared.marks.Marks.{Marks}
+use Rattle.kt_ckpt.specs.declared.header.CkptHeader.{CkptHeader}
 use Rattle.kt_store.specs.declared.rows.Verdict.{Verdict}
 use Rattle.kt_store.specs.declared.rows.Verdict.TheVariants as verdicts
 use Rattle.kt_vote.specs.declared.asker.Asker.{Asker}
 use Rattle.kt_vote.specs.Poll.{Poll, outcome_of}
-use Rattle.kt_node.specs.declared.live.Phase.{Phase}
-use Rattle.kt_node.specs.declared.live.Phase.TheVariants as phases
-use Rattle.kt_node.specs.declared.change.Change.{Change}
-use Rattle.kt_node.specs.declared.change.Change.TheVariants as changes
-use Rattle.kt_node.specs.declared.plan.Plan.{Plan}
-use Rattle.kt_node.specs.declared.plan.Write.TheVariants as writes
-use Rattle.kt_node.specs.declared.refusal.Refusal.TheVariants as refusals
-use Rattle.kt_node.specs.Node.{Live, Node, Down, Alive}
+use Rattle.kt_state.specs.declared.live.Phase.{Phase}
+use Rattle.kt_state.specs.declared.live.Phase.TheVariants as phases
+use Rattle.kt_state.specs.declared.change.Change.{Change}
+use Rattle.kt_state.specs.declared.change.Change.TheVariants as changes
+use Rattle.kt_state.specs.declared.plan.Plan.{Plan}
+use Rattle.kt_state.specs.declared.plan.Write.TheVariants as writes
+use Rattle.kt_state.specs.declared.refusal.Refusal.TheVariants as refusals
+use Rattle.kt_state.specs.Node.{Live, Node, Down, Alive}
 use Rattle.kt_node.specs.View.{View}
-use Rattle.kt_node.specs.Stored.{fits, acts_fit, is_undecided}
-use Rattle.kt_node.specs.Plan.{Planned, no_turn, turning_to}
-use Rattle.kt_node.specs.Voting.{vote_for, voted, votes}
+use Rattle.kt_state.specs.Stored.{fits, acts_fit, is_undecided}
+use Rattle.kt_state.specs.Plan.{Planned}
+use Rattle.kt_state.specs.Updating.{no_update, updating_to}
+use Rattle.kt_state.specs.Voting.{vote_for, voted, votes}
 use Rattle.kt_node.specs.Joining.{begin_check_plan}
-use Rattle.kt_node.specs.declared.stored.Stored.{Stored}
+use Rattle.kt_state.specs.declared.stored.Stored.{Stored}
 use Rattle.kt_node.specs.Learning.{verdict_to, held_learns, rolling_learns, down_learns}
 
 -- ---- check: the node is up; the check has the next number
 
-abbrev pub check_fitting : View → ℕ → Option Marks → Live → Planned
+abbrev pub check_fitting : View → ℕ → Option CkptHeader → Live → Planned
 check_fitting v next permanent n =
     if fits v.role v.line_len permanent && acts_fit v.role v.acts then Ok (begin_check_plan v n next permanent)
     else Err refusals.Damaged
 
-abbrev pub check_in : View → ℕ → Option Marks → Live → Phase → Planned
+abbrev pub check_in : View → ℕ → Option CkptHeader → Live → Phase → Planned
 check_in v next permanent n phases.Up = check_fitting v next permanent n
 check_in v next permanent n (phases.Held b) = Err refusals.WrongMode
 check_in v next permanent n (phases.Rolling b) = Err refusals.WrongMode
 
-abbrev pub check_of : View → ℕ → Option Marks → Node → Planned
+abbrev pub check_of : View → ℕ → Option CkptHeader → Node → Planned
 check_of v next permanent Down = Err refusals.WrongMode
 check_of v next permanent (Alive n) = check_in v next permanent n n.phase
 
-abbrev pub check : View → ℕ → Option Marks → Planned
+abbrev pub check : View → ℕ → Option CkptHeader → Planned
 check v next permanent = check_of v next permanent v.node
 
 -- ---- decide: who began an instance that is open, with nothing awaited or one refused; the verdict is what the board
@@ -47,8 +49,8 @@ check v next permanent = check_of v next permanent v.node
 
 -- a node in a rollback that has Yes is up; else it stays what it is
 abbrev pub decided_change : Phase → Bool → Change
-decided_change (phases.Rolling b) true = turning_to phases.Up
-decided_change phase agreed = changes.Turn no_turn
+decided_change (phases.Rolling b) true = updating_to phases.Up
+decided_change phase agreed = changes.Update no_update
 
 abbrev pub decide_plan : Phase → Poll → Bool → Plan
 decide_plan phase b agreed = record {
@@ -94,12 +96,13 @@ no_plan change instance asked = record {
 
 abbrev pub abandon_open : Poll → Option Verdict → Planned
 abandon_open b verdict =
-    if is_undecided verdict then Ok (no_plan (changes.Turn no_turn) b.instance b.asked) else Err refusals.NothingThere
+    if is_undecided verdict then Ok (no_plan (changes.Update no_update) b.instance b.asked) else Err
+    refusals.NothingThere
 
 -- the participant has voted, and its vote is no
 abbrev pub declined_plan : Phase → ℕ → Asker → Plan
 declined_plan phase instance parent = record {
-  change = turning_to phase;
+  change = updating_to phase;
   send = votes (Some (vote_for instance parent false));
   note = None;
   write = None;

@@ -1,51 +1,52 @@
 -- The table of steps, those of failures: how a node fails, and comes back.
+-- Cited by failing.rt; kt_core, kt_model, kt_refinement, kt_stage.
 use Rattle.std.specs.Prelude.{ℕ, ◌+◌, Bool, ◌&&◌, if◌then◌else◌, [], Option, None, Some, Result, Ok, Err}
 use Rattle.std.specs.Option.{is_some}
-use Rattle.kt_ckpt.specs.declared.marks.Marks.{Marks}
+use Rattle.kt_ckpt.specs.declared.header.CkptHeader.{CkptHeader}
 use Rattle.kt_store.specs.declared.rows.Verdict.{Verdict}
 use Rattle.kt_store.specs.declared.rows.Verdict.TheVariants as verdicts
 use Rattle.kt_vote.specs.declared.asker.Asker.{Asker}
 use Rattle.kt_vote.specs.Poll.{Poll, asking_poll}
-use Rattle.kt_node.specs.declared.live.Phase.{Phase}
-use Rattle.kt_node.specs.declared.live.Phase.TheVariants as phases
-use Rattle.kt_node.specs.declared.change.Change.TheVariants as changes
-use Rattle.kt_node.specs.declared.plan.Plan.{Plan}
-use Rattle.kt_node.specs.declared.plan.Write.TheVariants as writes
-use Rattle.kt_node.specs.declared.refusal.Refusal.{Refusal}
-use Rattle.kt_node.specs.declared.refusal.Refusal.TheVariants as refusals
-use Rattle.kt_node.specs.Labels.{label_at}
-use Rattle.kt_node.specs.Node.{Live, Node, Down, Alive, neighbours}
+use Rattle.kt_state.specs.declared.live.Phase.{Phase}
+use Rattle.kt_state.specs.declared.live.Phase.TheVariants as phases
+use Rattle.kt_state.specs.declared.change.Change.TheVariants as changes
+use Rattle.kt_state.specs.declared.plan.Plan.{Plan}
+use Rattle.kt_state.specs.declared.plan.Write.TheVariants as writes
+use Rattle.kt_state.specs.declared.refusal.Refusal.{Refusal}
+use Rattle.kt_state.specs.declared.refusal.Refusal.TheVariants as refusals
+use Rattle.kt_state.specs.Labels.{label_at}
+use Rattle.kt_state.specs.Node.{Live, Node, Down, Alive, neighbours}
 use Rattle.kt_node.specs.View.{View}
-use Rattle.kt_node.specs.Stored.{acts_in, fits}
-use Rattle.kt_node.specs.Plan.{Planned}
-use Rattle.kt_node.specs.Joining.{roll_asks}
-use Rattle.kt_node.specs.declared.stored.Stored.{Stored}
+use Rattle.kt_state.specs.Stored.{acts_in, fits}
+use Rattle.kt_state.specs.Plan.{Planned}
+use Rattle.kt_state.specs.Asking.{roll_asks}
+use Rattle.kt_state.specs.declared.stored.Stored.{Stored}
 use Rattle.kt_node.specs.Loading.{load}
 use Rattle.kt_node.specs.Learning.{cut_of}
 
--- ---- fail: the line is cut to the tentative checkpoint if there is one whose instance did not get No, else to the
+-- ---- fail: the log is cut to the tentative checkpoint if there is one whose instance did not get No, else to the
 -- permanent one
 
-abbrev pub left_by : Option Verdict → Option Marks → Option Marks → ℕ
+abbrev pub left_by : Option Verdict → Option CkptHeader → Option CkptHeader → ℕ
 left_by (Some verdicts.No) permanent tentative = acts_in permanent
 left_by _ permanent tentative = acts_in tentative
 
-abbrev pub line_left : Option Verdict → Option Marks → Option Marks → ℕ
-line_left verdict permanent None = acts_in permanent
-line_left verdict permanent (Some m) = left_by verdict permanent (Some m)
+abbrev pub log_left : Option Verdict → Option CkptHeader → Option CkptHeader → ℕ
+log_left verdict permanent None = acts_in permanent
+log_left verdict permanent (Some m) = left_by verdict permanent (Some m)
 
 abbrev pub fail_plan : View → ℕ → Plan
 fail_plan v keep = record { change = changes.Fall; send = []; note = cut_of v.role.id keep; write = None }
 
-abbrev pub fail_of : View → Option Verdict → Option Marks → Option Marks → Node → Planned
+abbrev pub fail_of : View → Option Verdict → Option CkptHeader → Option CkptHeader → Node → Planned
 fail_of v verdict permanent tentative Down = Err refusals.WrongMode
 fail_of v verdict permanent tentative (Alive n) =
     if fits v.role v.line_len permanent && fits v.role v.line_len tentative
-    then Ok (fail_plan v (line_left verdict permanent tentative))
+    then Ok (fail_plan v (log_left verdict permanent tentative))
     else Err refusals.Damaged
 
 -- the verdict is what the board has of the tentative checkpoint's instance
-abbrev pub fail : View → Option Verdict → Option Marks → Option Marks → Planned
+abbrev pub fail : View → Option Verdict → Option CkptHeader → Option CkptHeader → Planned
 fail v verdict permanent tentative = fail_of v verdict permanent tentative v.node
 
 -- ---- restart: down with nothing tentative and no open instance of its own, or who began a rollback that got No. The

@@ -1,23 +1,27 @@
 -- What a verdict makes of a node, whether it learns it from the board or is told.
+-- Cited by learning.rt, specs/Arrivals, specs/Deciding, specs/Failing, `learning::verdict_to`; kt_model,
+--   kt_refinement, kt_stage.
 use Rattle.std.specs.Prelude.{ℕ, Bool, true, if◌then◌else◌, List, [], map}
 use Rattle.std.specs.Prelude.{Option, None, Some, Result, Ok, Err}
 use Rattle.kt_tuple.specs.declared.node.NodeId.{NodeId}
 use Rattle.kt_history.specs.declared.note.Note.{Note}
 use Rattle.kt_history.specs.declared.note.Note.TheVariants as notes
-use Rattle.kt_node.specs.declared.message.Message.{Message}
-use Rattle.kt_node.specs.declared.message.Message.TheVariants as messages
-use Rattle.kt_node.specs.declared.live.Phase.TheVariants as phases
-use Rattle.kt_node.specs.declared.change.Change.TheVariants as changes
-use Rattle.kt_node.specs.declared.plan.Plan.{Plan}
-use Rattle.kt_node.specs.declared.plan.Write.TheVariants as writes
-use Rattle.kt_node.specs.declared.refusal.Refusal.{Refusal}
-use Rattle.kt_node.specs.declared.refusal.Refusal.TheVariants as refusals
-use Rattle.kt_node.specs.Node.{Live}
+use Rattle.kt_state.specs.declared.message.Message.{Message}
+use Rattle.kt_state.specs.declared.message.Message.TheVariants as messages
+use Rattle.kt_state.specs.declared.live.Phase.TheVariants as phases
+use Rattle.kt_state.specs.declared.change.Change.TheVariants as changes
+use Rattle.kt_state.specs.declared.plan.Plan.{Plan}
+use Rattle.kt_state.specs.declared.plan.Write.TheVariants as writes
+use Rattle.kt_state.specs.declared.refusal.Refusal.{Refusal}
+use Rattle.kt_state.specs.declared.refusal.Refusal.TheVariants as refusals
+use Rattle.kt_state.specs.Node.{Live}
 use Rattle.kt_node.specs.View.{View}
-use Rattle.kt_node.specs.Stored.{acts_in, fits}
-use Rattle.kt_node.specs.declared.stored.Stored.{Stored}
-use Rattle.kt_node.specs.Loading.{load, marks_in}
-use Rattle.kt_node.specs.Plan.{Planned, no_turn}
+use Rattle.kt_state.specs.Stored.{acts_in, fits}
+use Rattle.kt_state.specs.declared.stored.Stored.{Stored}
+use Rattle.kt_node.specs.Loading.{load}
+use Rattle.kt_state.specs.Loading.{header_in}
+use Rattle.kt_state.specs.Plan.{Planned}
+use Rattle.kt_state.specs.Updating.{no_update}
 
 -- the verdict goes to each of these
 abbrev pub verdict_for : ℕ → Bool → NodeId → NodeId × Message
@@ -35,7 +39,7 @@ cut_of p keep = Some (notes.Cut p keep)
 -- Yes: the tentative checkpoint is permanent, and nothing was sent since
 abbrev pub promote_plan : List (NodeId × Message) → Plan
 promote_plan send = record {
-  change = changes.Turn record no_turn { promoted = true; phase = Some phases.Up };
+  change = changes.Update record no_update { promoted = true; phase = Some phases.Up };
   send = send;
   note = None;
   write = Some writes.Promote;
@@ -44,7 +48,7 @@ promote_plan send = record {
 -- No: it is given up
 abbrev pub discard_plan : List (NodeId × Message) → Plan
 discard_plan send = record {
-  change = changes.Turn record no_turn { phase = Some phases.Up };
+  change = changes.Update record no_update { phase = Some phases.Up };
   send = send;
   note = None;
   write = Some writes.Discard;
@@ -53,12 +57,12 @@ discard_plan send = record {
 abbrev pub held_learns : Bool → List (NodeId × Message) → Plan
 held_learns agreed send = if agreed then promote_plan send else discard_plan send
 
--- Yes: the permanent state is loaded in the next incarnation, and the line is cut to it
+-- Yes: the permanent state is loaded in the next incarnation, and the log is cut to it
 abbrev pub restoring_plan : View → Stored → List (NodeId × Message) → Live → Plan
 restoring_plan v s send live = record {
   change = changes.Load live;
   send = send;
-  note = cut_of v.role.id (acts_in (marks_in s));
+  note = cut_of v.role.id (acts_in (header_in s));
   write = Some writes.Bump;
 }
 
@@ -69,7 +73,7 @@ restored v s send (Err refusal) = Err refusal
 -- No: the state stays
 abbrev pub release_plan : List (NodeId × Message) → Plan
 release_plan send = record {
-  change = changes.Turn record no_turn { phase = Some phases.Up };
+  change = changes.Update record no_update { phase = Some phases.Up };
   send = send;
   note = None;
   write = None;
@@ -85,17 +89,17 @@ rolling_learns v s agreed send =
 abbrev pub promote_down_plan : Plan
 promote_down_plan = record { change = changes.Stay; send = []; note = None; write = Some writes.Promote }
 
--- No: it is given up, and the line is cut to the permanent one
+-- No: it is given up, and the log is cut to the permanent one
 abbrev pub discard_down_plan : View → Stored → Plan
 discard_down_plan v s = record {
   change = changes.Stay;
   send = [];
-  note = cut_of v.role.id (acts_in (marks_in s));
+  note = cut_of v.role.id (acts_in (header_in s));
   write = Some writes.Discard;
 }
 
 abbrev pub down_learns : View → Stored → Bool → Planned
 down_learns v s agreed =
     if agreed then Ok promote_down_plan
-    else if fits v.role v.line_len (marks_in s) then Ok (discard_down_plan v s)
+    else if fits v.role v.line_len (header_in s) then Ok (discard_down_plan v s)
     else Err refusals.Damaged

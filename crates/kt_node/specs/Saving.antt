@@ -1,6 +1,7 @@
 -- When a checkpoint of a node can be taken: its counts are those of the format.
+-- Cited by arrivals.rt, deciding.rt, joining.rt; kt_core, kt_model.
 use Rattle.kt_ckpt.specs.Checkpoint.{HasCounts}
-use Rattle.kt_node.specs.Node.{Live, Node, Down, Alive}
+use Rattle.kt_state.specs.Node.{Live, Node, Down, Alive}
 use Rattle.kt_node.specs.View.{View}
 use Rattle.kt_node.specs.Joining.{checkpoint_now}
 

@@ -1,23 +1,25 @@
 -- The table of steps, its part of the underlying computation: what a node may do of itself, and why it may not. Of
 -- several refusals the lowest is given.
-use Rattle.std.specs.Prelude.{ℕ, Option, None, Some, Result, Ok, Err, slice_get}
+-- Cited by Acting, at_once.rt, laws.rt, short_plan.rt, specs/Speaking, steps.rt; kt_core, kt_model, kt_run, kt_stage.
+use Rattle.std.specs.Prelude.{ℕ, Option, None, Some, Result, Ok, Err}
 use Rattle.kt_tuple.specs.declared.node.NodeId.{NodeId}
 use Rattle.kt_tuple.specs.declared.op.Op.{Op}
 use Rattle.kt_worker.specs.declared.worker.Worker.{Worker}
-use Rattle.kt_worker.specs.Standing.{next_request, again_request, issued}
+use Rattle.kt_worker.specs.WorkerModel.{next_request, again_request, issued}
 use Rattle.kt_shard.specs.declared.error.ServeError.{ServeError}
 use Rattle.kt_shard.specs.declared.error.ServeError.TheVariants as unserved
 use Rattle.kt_shard.specs.Shard.{Shard}
 use Rattle.kt_shard.specs.Service.{Service, service}
-use Rattle.kt_node.specs.declared.message.Post.{Post}
-use Rattle.kt_node.specs.declared.live.Phase.{Phase}
-use Rattle.kt_node.specs.declared.live.Phase.TheVariants as phases
-use Rattle.kt_node.specs.declared.change.KeptChange.TheVariants as keeps
-use Rattle.kt_node.specs.declared.refusal.Refusal.{Refusal}
-use Rattle.kt_node.specs.declared.refusal.Refusal.TheVariants as refusals
-use Rattle.kt_node.specs.Node.{Live, Node, Down, Alive, worker_in, shard_in}
+use Rattle.kt_state.specs.declared.message.AppMessage.{AppMessage}
+use Rattle.kt_state.specs.declared.live.Phase.{Phase}
+use Rattle.kt_state.specs.declared.live.Phase.TheVariants as phases
+use Rattle.kt_state.specs.declared.change.KeptChange.TheVariants as keeps
+use Rattle.kt_state.specs.declared.refusal.Refusal.{Refusal}
+use Rattle.kt_state.specs.declared.refusal.Refusal.TheVariants as refusals
+use Rattle.kt_state.specs.Node.{Live, Node, Down, Alive, worker_in, shard_in}
+use Rattle.kt_state.specs.Kept.{first_kept}
 use Rattle.kt_node.specs.View.{View}
-use Rattle.kt_node.specs.Plan.{Planned}
+use Rattle.kt_state.specs.Plan.{Planned}
 use Rattle.kt_node.specs.Talking.{issue_plan, repeat_plan, service_plan, heard_plan}
 
 -- the node, where it is up
@@ -38,17 +40,13 @@ by_up (Some n) plan = plan n
 abbrev pub while_up : Node → (Live → Planned) → Planned
 while_up node plan = by_up (up_of node) plan
 
--- the message that was kept first
-abbrev pub first_kept : Live → Option (NodeId × Post)
-first_kept n = slice_get n.kept 0
-
 -- ---- issue: nothing unanswered, nothing kept, an operation left
 
 abbrev pub issue_found : View → Live → Worker → Option (ℕ × Op) → Planned
 issue_found v n x None = Err refusals.NothingThere
 issue_found v n x (Some r) = Ok (issue_plan v n r (issued v.role.script x))
 
-abbrev pub issue_unless_kept : View → Live → Worker → Option (NodeId × Post) → Planned
+abbrev pub issue_unless_kept : View → Live → Worker → Option (NodeId × AppMessage) → Planned
 issue_unless_kept v n x None = issue_found v n x (next_request v.role.script x)
 issue_unless_kept v n x (Some first) = Err refusals.NothingThere
 
@@ -74,7 +72,7 @@ repeat v = while_up v.node (λ n. repeat_by v n (worker_in n.body))
 
 -- ---- take: something kept
 
-abbrev pub take_first : View → Live → Option (NodeId × Post) → Planned
+abbrev pub take_first : View → Live → Option (NodeId × AppMessage) → Planned
 take_first v n None = Err refusals.NothingThere
 take_first v n (Some first) = Ok (heard_plan v n keeps.TakeFirst first.0 first.1)
 

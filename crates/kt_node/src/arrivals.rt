@@ -1,28 +1,23 @@
 //! What a control message makes of the node that it comes to.
+//! Cited by kt_core.
 
 ghost use Rattle.std.specs.Prelude.{◌≡◌, ◌+◌, ◌<◌, ◌^◌, IfOk, Ok};
 ghost use Rattle.std.specs.Option.{option_copied};
-ghost use Rattle.kt_node.specs.Plan.{Gives};
+ghost use Rattle.kt_state.specs.Refusing.{Gives};
 ghost use Rattle.kt_node.specs.Saving.{CanSave, CanSaveNode};
 ghost use Rattle.kt_node.specs.View.{view_of};
-ghost use Rattle.kt_node.specs.inner.Codes.{live_view};
+ghost use Rattle.kt_state.specs.Codes.{live_view};
 ghost use Rattle.kt_node.specs.Arrivals.{answer_plan, check_plan, hear_check, sieved_answer_plan, hear_rollback};
 ghost use Rattle.kt_node.specs.Arrivals.{counted_if, hear_vote, vote_in, vote_plan, voting_plan};
 ghost use Rattle.kt_node.specs.Arrivals.{hear_verdict, verdict_by_parent, verdict_in, verdict_when_held};
-ghost use Rattle.kt_node.specs.inner.Between.{in_phase};
+ghost use Rattle.kt_state.specs.Node.{in_phase};
 
-use crate::change::Turn;
 use crate::joining::asker_of;
 use crate::learning::{held_learns, verdict_to};
-use crate::live::{Live, Phase};
-use crate::message::Ask;
-use crate::plan::Plan;
-use crate::reaction::{Reaction, is_in};
-use crate::refusal::Refusal;
-use crate::role::View;
-use crate::stored::{Stored, fits};
-use crate::voting::{cast, vote_alone, vote_for};
-use kt_ckpt::Marks;
+use crate::reaction::{Reaction, check_reaction, is_in, rollback_reaction};
+use crate::view::View;
+use kt_ckpt::CkptHeader;
+use kt_state::{Ask, Live, Phase, Plan, Refusal, Stored, Update, cast, fits, vote_alone, vote_for};
 use kt_store::Verdict;
 use kt_tuple::NodeId;
 use kt_vote::{Ballot, Vote};
@@ -34,7 +29,7 @@ fn answer_plan(alloc: Global, from: NodeId, ask: Ask, yes: bool) -> Result<Plan,
 {
     let vote = vote_for(ask.instance, asker_of(from, ask), yes);
     let send = vote_alone(alloc, Some(vote))?;
-    Plan::of(alloc, Turn::none(), send, None)
+    Plan::of(alloc, Update::none(), send, None)
 }
 
 /// A vote at once; what is kept from the asker above the label is dropped. A Yes undoes the act that sent such a
@@ -44,7 +39,7 @@ fn sieved_answer_plan(alloc: Global, from: NodeId, ask: Ask, yes: bool) -> Resul
 {
     let vote = vote_for(ask.instance, asker_of(from, ask), yes);
     let send = vote_alone(alloc, Some(vote))?;
-    Plan::of(alloc, Turn::sieving(from, ask.label), send, None)
+    Plan::of(alloc, Update::sieving(from, ask.label), send, None)
 }
 
 /// A ballot with one vote more, and the vote that its node has to cast now.
@@ -69,7 +64,7 @@ fn voting_plan(alloc: Global, phase: Phase, own: Option<(NodeId, Vote)>) -> Resu
     ensures { IfOk result (λ p. p ≡ voting_plan phase own) }
 {
     let send = vote_alone(alloc, own)?;
-    Plan::of(alloc, Turn::to(phase), send, None)
+    Plan::of(alloc, Update::to(phase), send, None)
 }
 
 /// What a vote makes of a node in this phase, which has this ballot.
@@ -122,7 +117,7 @@ impl View<'_> {
         live: &Live,
         from: NodeId,
         ask: Ask,
-        permanent: Option<&Marks>,
+        permanent: Option<&CkptHeader>,
         reaction: Reaction,
     ) -> Result<Plan, Refusal>
         requires { CanSave (view_of self) (live_view live.now) }
@@ -141,33 +136,33 @@ impl View<'_> {
     }
 
     /// An ask to take a checkpoint. `verdict` is what the board has of its instance; `permanent` and `tentative` are
-    /// the marks of the node's checkpoints. `Damaged` where these do not fit the node.
+    /// the header of the node's checkpoints. `Damaged` where these do not fit the node.
     pub fn hear_check(
         self,
         alloc: Global,
         from: NodeId,
         ask: Ask,
         verdict: Option<Verdict>,
-        permanent: Option<&Marks>,
-        tentative: Option<&Marks>,
+        permanent: Option<&CkptHeader>,
+        tentative: Option<&CkptHeader>,
     ) -> Result<Plan, Refusal>
         requires { CanSaveNode (view_of self) self.node.now.node }
         ensures { Gives result (hear_check (view_of self.entry) from ask verdict
             (option_copied permanent.entry) (option_copied tentative.entry)) }
     {
         let node = self.node;
-        let Some(live) = &node.live else {
+        let Some(live) = node.live() else {
             return Ok(Plan::empty(alloc));
         };
         let (role, line_len) = (self.role, self.line_len());
         if !(fits(role, line_len, permanent) && fits(role, line_len, tentative)) {
             return Err(Refusal::Damaged);
         }
-        let reaction = live.check_reaction(from, ask, verdict, permanent, tentative);
+        let reaction = check_reaction(live, from, ask, verdict, permanent, tentative);
         self.check_plan(alloc, live, from, ask, permanent, reaction)
     }
 
-    /// An ask to roll back. `verdict` is what the board has of its instance, `permanent` the marks of the node's
+    /// An ask to roll back. `verdict` is what the board has of its instance, `permanent` the header of the node's
     /// permanent checkpoint. What the node keeps from the asker above the label is dropped, whatever it answers.
     /// `Damaged` where the node takes part and these do not fit it.
     pub fn hear_rollback(
@@ -176,15 +171,15 @@ impl View<'_> {
         from: NodeId,
         ask: Ask,
         verdict: Option<Verdict>,
-        permanent: Option<&Marks>,
+        permanent: Option<&CkptHeader>,
     ) -> Result<Plan, Refusal>
         ensures { Gives result (hear_rollback (view_of self.entry) from ask verdict (option_copied permanent.entry)) }
     {
         let node = self.node;
-        let Some(live) = &node.live else {
+        let Some(live) = node.live() else {
             return Ok(Plan::empty(alloc));
         };
-        match live.rollback_reaction(from, ask, verdict) {
+        match rollback_reaction(live, from, ask, verdict) {
             Reaction::Says(yes) => Ok(sieved_answer_plan(alloc, from, ask, yes)?),
             Reaction::Joins => {
                 if !fits(self.role, self.line_len(), permanent) {
@@ -201,7 +196,7 @@ impl View<'_> {
         ensures { Gives result (hear_vote (view_of self.entry) from vote) }
     {
         let node = self.node;
-        match &node.live {
+        match node.live() {
             None => Ok(Plan::empty(alloc)),
             Some(live) => Ok(vote_in(alloc, from, vote, &live.phase)?),
         }
@@ -220,7 +215,7 @@ impl View<'_> {
         ensures { Gives result (hear_verdict (view_of self.entry) stored instance yes) }
     {
         let node = self.node;
-        match &node.live {
+        match node.live() {
             None => Ok(Plan::empty(alloc)),
             Some(live) => self.verdict_in(alloc, stored, &live.phase, instance, yes),
         }

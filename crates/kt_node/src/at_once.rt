@@ -1,22 +1,22 @@
 //! A worker asks once more, without a plan of all that a step can be: what is looked at, what is said, and what becomes
 //! of the node.
+//! Cited by kt_core.
 
 ghost use Rattle.std.specs.Prelude.{◌≡◌, ◌≤◌, IfOk, IfSome, Ok, Some};
-ghost use Rattle.kt_node.specs.declared.change.Change.TheVariants.{Turn as Goes};
+ghost use Rattle.kt_state.specs.declared.change.Change.TheVariants.{Update as Goes};
 ghost use Rattle.kt_node.specs.AtOnce.{again_plan, said_message, said_note, said_plan};
-ghost use Rattle.kt_node.specs.Plan.{no_turn};
-ghost use Rattle.kt_node.specs.Ready.{CanChange, CanSpeak};
+ghost use Rattle.kt_state.specs.Updating.{no_update};
+ghost use Rattle.kt_state.specs.Ready.{CanChange};
+ghost use Rattle.kt_node.specs.Speaking.{CanSpeak};
 ghost use Rattle.kt_node.specs.Steps.{repeat};
-ghost use Rattle.kt_node.specs.Turning.{changed};
+ghost use Rattle.kt_state.specs.Updating.{changed};
 ghost use Rattle.kt_node.specs.View.{view_of};
 
-use crate::live::Body;
-use crate::message::{Message, Post, Talk};
-use crate::node::Node;
-use crate::role::View;
+use crate::view::View;
 use kt_history::{Act, Note, What};
 use kt_link::Label;
 use kt_shard::Request;
+use kt_state::{AppMessage, Body, Message, Node, Talk};
 use kt_tuple::{NodeId, Op};
 use std::alloc::{AllocError, Global};
 
@@ -104,7 +104,7 @@ impl Said {
             noted,
             ..
         } = self;
-        let message = Message::Post(Post {
+        let message = Message::App(AppMessage {
             talk: Talk::Request(Request { number, op }),
             label,
             by,
@@ -118,17 +118,5 @@ impl Said {
             what: What::Repeat,
         });
         (message, note)
-    }
-}
-
-impl Node {
-    /// The next underlying message goes to the node. It takes no memory.
-    pub fn say(&mut self, to: NodeId)
-        requires { CanChange self.old.node (Goes (record no_turn { said = Some to })) }
-        ensures { self.new.node ≡ changed (Goes (record no_turn { said = Some to })) self.old.node }
-    {
-        if let Some(live) = &mut self.live {
-            live.say(to);
-        }
     }
 }

@@ -1,26 +1,25 @@
 //! The steps of checks and rollbacks that a node makes of itself.
+//! Cited by kt_core.
 
 ghost use Rattle.std.specs.Prelude.{◌≡◌, ◌+◌, ◌<◌, ◌^◌, IfOk, None, Some, false};
 ghost use Rattle.std.specs.Option.{option_copied};
-ghost use Rattle.kt_node.specs.Plan.{Gives};
+ghost use Rattle.kt_state.specs.Refusing.{Gives};
 ghost use Rattle.kt_node.specs.Saving.{CanSaveNode};
 ghost use Rattle.kt_node.specs.View.{view_of};
 ghost use Rattle.kt_node.specs.Deciding.{check, decide, decide_by, decide_plan, decided_change};
 ghost use Rattle.kt_node.specs.Deciding.{abandon, abandon_by, abandon_open, declined_plan, no_plan};
 ghost use Rattle.kt_node.specs.Deciding.{learn, learn_by, learn_down, learn_held, learn_in, settled};
-ghost use Rattle.kt_node.specs.Voting.{voted};
-ghost use Rattle.kt_node.specs.inner.Between.{in_phase};
-ghost use Rattle.kt_node.specs.declared.plan.Write.TheVariants.{Decide};
+ghost use Rattle.kt_state.specs.Voting.{voted};
+ghost use Rattle.kt_state.specs.Node.{in_phase};
+ghost use Rattle.kt_state.specs.declared.plan.Write.TheVariants.{Decide};
 
-use crate::change::{Change, Turn};
 use crate::learning::{held_learns, verdict_to};
-use crate::live::Phase;
-use crate::plan::{Outbox, Plan, Write};
-use crate::refusal::Refusal;
-use crate::role::View;
-use crate::stored::{Stored, fits, is_undecided};
-use crate::voting::{vote_alone, vote_for};
-use kt_ckpt::Marks;
+use crate::view::View;
+use kt_ckpt::CkptHeader;
+use kt_state::{
+    Change, Outbox, Phase, Plan, Refusal, Stored, Update, Write, fits, is_undecided, vote_alone,
+    vote_for,
+};
 use kt_store::Verdict;
 use kt_tuple::NodeId;
 use kt_vote::{Asker, Ballot};
@@ -31,8 +30,8 @@ fn decided_change(alloc: Global, phase: &Phase, yes: bool) -> Result<Change, All
     ensures { IfOk result (λ c. c ≡ decided_change phase.now yes) }
 {
     match phase {
-        Phase::Rolling(_) if yes => Change::turning(alloc, Turn::to(Phase::Up)),
-        _ => Change::turning(alloc, Turn::none()),
+        Phase::Rolling(_) if yes => Change::turning(alloc, Update::to(Phase::Up)),
+        _ => Change::turning(alloc, Update::none()),
     }
 }
 
@@ -86,7 +85,7 @@ fn declined_plan(
     ensures { IfOk result (λ p. p ≡ declined_plan phase instance parent) }
 {
     let send = vote_alone(alloc, Some(vote_for(instance, parent, false)))?;
-    Plan::of(alloc, Turn::to(phase), send, None)
+    Plan::of(alloc, Update::to(phase), send, None)
 }
 
 /// The verdict as a yes or a no; `None` while the instance is open, and where the board has no row of it.
@@ -108,7 +107,7 @@ fn abandon_open(alloc: Global, ballot: &Ballot, verdict: Option<Verdict>) -> Res
         return Err(Refusal::NothingThere);
     }
     let instance = ballot.instance();
-    let change = Change::turning(alloc, Turn::none())?;
+    let change = Change::turning(alloc, Update::none())?;
     let send = verdict_to(alloc, instance, false, ballot.asked())?;
     Ok(no_plan(change, instance, send))
 }
@@ -152,14 +151,19 @@ fn abandon_by(
 }
 
 impl View<'_> {
-    /// A node that is up begins a check, which has the number `next`. `permanent` are the marks of its permanent
+    /// A node that is up begins a check, which has the number `next`. `permanent` are the header of its permanent
     /// checkpoint: `Damaged` where these do not fit it.
-    pub fn check(self, alloc: Global, next: u64, permanent: Option<&Marks>) -> Result<Plan, Refusal>
+    pub fn check(
+        self,
+        alloc: Global,
+        next: u64,
+        permanent: Option<&CkptHeader>,
+    ) -> Result<Plan, Refusal>
         requires { CanSaveNode (view_of self) self.node.now.node }
         ensures { Gives result (check (view_of self.entry) next (option_copied permanent.entry)) }
     {
         let node = self.node;
-        let Some(live) = &node.live else {
+        let Some(live) = node.live() else {
             return Err(Refusal::WrongMode);
         };
         let Phase::Up = &live.phase else {
@@ -180,7 +184,7 @@ impl View<'_> {
         ensures { Gives result (decide (view_of self.entry) verdict) }
     {
         let node = self.node;
-        let Some(live) = &node.live else {
+        let Some(live) = node.live() else {
             return Err(Refusal::WrongMode);
         };
         match &live.phase {
@@ -203,7 +207,7 @@ impl View<'_> {
         ensures { Gives result (abandon (view_of self.entry) verdict undecided) }
     {
         let node = self.node;
-        let Some(live) = &node.live else {
+        let Some(live) = node.live() else {
             return match undecided {
                 // The ballot went with the failure, so it knows nobody to tell: who votes in it can learn No from
                 // the board.
@@ -233,7 +237,7 @@ impl View<'_> {
         ensures { Gives result (learn (view_of self.entry) stored is_tentative verdict) }
     {
         let node = self.node;
-        match &node.live {
+        match node.live() {
             None => self.learn_down(alloc, &stored, is_tentative, settled(verdict)),
             Some(live) => self.learn_in(alloc, stored, &live.phase, settled(verdict)),
         }

@@ -1,32 +1,30 @@
 //! How a node fails, and comes back.
+//! Cited by kt_core.
 
 ghost use Rattle.std.specs.Prelude.{◌≡◌, ◌+◌, ◌<◌, ◌^◌, ℕ, IfOk, MatchResult, None, Some};
 ghost use Rattle.std.specs.Option.{option_copied};
 ghost use Rattle.kt_vote.specs.Poll.{asking_poll};
-ghost use Rattle.kt_node.specs.declared.change.Change.TheVariants.{Load};
-ghost use Rattle.kt_node.specs.declared.live.Phase.TheVariants.{Rolling};
-ghost use Rattle.kt_node.specs.declared.plan.Write.TheVariants.{BeginRestart};
-ghost use Rattle.kt_node.specs.declared.stored.Stored.{Stored as StoredData};
-ghost use Rattle.kt_node.specs.Failing.{fail, line_left, restart, restart_of, restart_plan};
-ghost use Rattle.kt_node.specs.Joining.{roll_asks};
-ghost use Rattle.kt_node.specs.Labels.{label_at};
-ghost use Rattle.kt_node.specs.Node.{neighbours};
-ghost use Rattle.kt_node.specs.Plan.{Gives, Refuses};
+ghost use Rattle.kt_state.specs.declared.change.Change.TheVariants.{Load};
+ghost use Rattle.kt_state.specs.declared.live.Phase.TheVariants.{Rolling};
+ghost use Rattle.kt_state.specs.declared.plan.Write.TheVariants.{BeginRestart};
+ghost use Rattle.kt_state.specs.declared.stored.Stored.{Stored as StoredData};
+ghost use Rattle.kt_node.specs.Failing.{fail, log_left, restart, restart_of, restart_plan};
+ghost use Rattle.kt_state.specs.Asking.{roll_asks};
+ghost use Rattle.kt_state.specs.Labels.{label_at};
+ghost use Rattle.kt_state.specs.Node.{neighbours};
+ghost use Rattle.kt_state.specs.Refusing.{Gives, Refuses};
 ghost use Rattle.kt_node.specs.View.{View as ViewData, view_of};
-ghost use Rattle.kt_node.specs.Views.{role_view};
+ghost use Rattle.kt_state.specs.Views.{role_view};
 
-use crate::asking::{Sent, roll_asks};
-use crate::change::{Change, Loaded};
 use crate::joining::neighbours;
 use crate::learning::cut_of;
-use crate::live::Phase;
-use crate::node::Node;
-use crate::plan::{Outbox, Plan, Write};
-use crate::refusal::Refusal;
-use crate::role::{Role, View};
-use crate::stored::{Stored, acts_in, fits};
-use kt_ckpt::Marks;
+use crate::view::View;
+use kt_ckpt::CkptHeader;
 use kt_link::Label;
+use kt_state::{
+    Change, Loaded, Node, Outbox, Phase, Plan, Refusal, Role, Sent, Stored, Write, acts_in, fits,
+    roll_asks,
+};
 use kt_store::Verdict;
 use kt_vote::Ballot;
 use std::alloc::{AllocError, Global};
@@ -34,8 +32,12 @@ use std::alloc::{AllocError, Global};
 /// How many acts a node that fails remembers: those of the tentative checkpoint if there is one whose instance did
 /// not get No, else those of the permanent one. Without a row on the board it is undecided: only a No takes it back
 /// (docs/DECISIONS.md#the-world-with-failures).
-fn line_left(verdict: Option<Verdict>, permanent: Option<&Marks>, tentative: Option<&Marks>) -> u64
-    ensures { result ≡ line_left verdict (option_copied permanent.entry) (option_copied tentative.entry) }
+fn log_left(
+    verdict: Option<Verdict>,
+    permanent: Option<&CkptHeader>,
+    tentative: Option<&CkptHeader>,
+) -> u64
+    ensures { result ≡ log_left verdict (option_copied permanent.entry) (option_copied tentative.entry) }
 {
     match (verdict, tentative) {
         (Some(Verdict::No), _) | (_, None) => acts_in(permanent),
@@ -54,7 +56,7 @@ fn may_restart(
         (λ _. restart_of v s next is_tentative undecided verdict node.now.node ≡ restart_plan v s next)
         (λ r. Refuses r (restart_of v s next is_tentative undecided verdict node.now.node)) }
 {
-    let Some(live) = &node.live else {
+    let Some(live) = node.live() else {
         if is_tentative || undecided.is_some() {
             // Its asks to roll back have the labels of the permanent checkpoint, and a Yes would make the tentative one
             // permanent after them; so it learns first what became of that.
@@ -110,28 +112,26 @@ fn restarting_plan(
       write = Some BeginRestart;
     }) }
 {
-    let mut loaded = loaded;
-    let (ballot, send) = restarting(alloc, role, &loaded.live.sent, next, incarnation)?;
-    loaded.live.phase = Phase::Rolling(ballot);
-    let change = Change::loading(alloc, loaded)?;
+    let (ballot, send) = restarting(alloc, role, loaded.sent(), next, incarnation)?;
+    let change = Change::loading(alloc, loaded.rolling(ballot))?;
     Ok(Plan::writing(change, send, Write::BeginRestart))
 }
 
 impl View<'_> {
     /// The node fails. `verdict` is what the board has of the instance of its tentative checkpoint. `permanent` and
-    /// `tentative` are the marks of its checkpoints: `Damaged` where these do not fit it.
+    /// `tentative` are the headers of its checkpoints: `Damaged` where these do not fit it.
     pub fn fail(
         self,
         alloc: Global,
         verdict: Option<Verdict>,
-        permanent: Option<&Marks>,
-        tentative: Option<&Marks>,
+        permanent: Option<&CkptHeader>,
+        tentative: Option<&CkptHeader>,
     ) -> Result<Plan, Refusal>
         ensures { Gives result (fail (view_of self.entry) verdict
             (option_copied permanent.entry) (option_copied tentative.entry)) }
     {
         let node = self.node;
-        if node.live.is_none() {
+        if node.live().is_none() {
             return Err(Refusal::WrongMode);
         }
         let (role, line_len) = (self.role, self.line_len());
@@ -141,7 +141,7 @@ impl View<'_> {
         Ok(Plan {
             change: Change::Fall,
             send: Outbox::empty(alloc),
-            note: cut_of(role.id, line_left(verdict, permanent, tentative)),
+            note: cut_of(role.id, log_left(verdict, permanent, tentative)),
             write: None,
         })
     }
@@ -173,7 +173,7 @@ impl View<'_> {
         requires { stored.incarnation + 1 < 2 ^ 64 }
         ensures { Gives result (restart_plan (view_of self.entry) stored next) }
     {
-        // Labels have to rise along a line, and the old incarnation may have used those that come next.
+        // Labels have to rise along a log, and the old incarnation may have used those that come next.
         let incarnation = stored.incarnation + 1;
         let loaded = self.load(alloc, stored)?;
         Ok(restarting_plan(alloc, self.role, loaded, next, incarnation)?)

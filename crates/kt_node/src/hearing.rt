@@ -1,50 +1,48 @@
 //! What workers and shards hear of each other: the plans of these acts.
+//! Cited by app_messages.rt, short_plan.rt, steps.rt.
 
 ghost use Rattle.std.specs.Prelude.{◌≡◌, IfOk};
 ghost use Rattle.std.specs.Bool.{then_some};
 ghost use Rattle.std.specs.Option.{option_copied};
 ghost use Rattle.kt_history.specs.declared.note.What.TheVariants.{Accepted, Heard, Ignored};
-ghost use Rattle.kt_worker.specs.Standing.{awaits, heard};
+ghost use Rattle.kt_worker.specs.WorkerModel.{awaits, heard};
 ghost use Rattle.kt_shard.specs.Arrival.{arrival_view};
-ghost use Rattle.kt_node.specs.declared.change.BodyChange.TheVariants.{Stay, Wait, Work};
-ghost use Rattle.kt_node.specs.Node.{node_number};
-ghost use Rattle.kt_node.specs.inner.Codes.{live_view};
+ghost use Rattle.kt_state.specs.declared.change.BodyChange.TheVariants.{Stay, Wait, Work};
+ghost use Rattle.kt_state.specs.Node.{node_number};
+ghost use Rattle.kt_state.specs.Codes.{live_view};
 ghost use Rattle.kt_node.specs.View.{view_of};
-ghost use Rattle.kt_node.specs.Ready.{CanCount};
+ghost use Rattle.kt_state.specs.Ready.{CanCount};
 ghost use Rattle.kt_node.specs.Talking.{hearing, note_of, again_plan, request_plan, reply_plan, heard_plan};
 
-use crate::change::{BodyChange, KeptChange, Turn};
-use crate::live::{Body, Live};
-use crate::message::{Post, Talk};
-use crate::plan::{Outbox, Plan};
-use crate::role::View;
+use crate::view::View;
 use kt_history::{Note, What};
 use kt_link::Label;
 use kt_shard::{Arrival, Request};
+use kt_state::{AppMessage, Body, BodyChange, KeptChange, Live, Outbox, Plan, Talk, Update};
 use kt_tuple::{Answer, NodeId};
 use kt_worker::Worker;
 use std::alloc::{AllocError, Global};
 
 impl View<'_> {
-    /// The kept answer is sent again.
+    /// The cached answer is sent again.
     fn again_plan(
         self,
         alloc: Global,
         live: &Live,
         kept: KeptChange,
         from: NodeId,
-        post: &Post,
+        app: &AppMessage,
         request: &Request,
         answer: &Answer,
     ) -> Result<Plan, AllocError>
         requires { CanCount (live_view live.now) }
         ensures { IfOk result (λ plan. plan ≡
-            again_plan (view_of self.entry) (live_view live.now) kept from post.now request.now answer.now) }
+            again_plan (view_of self.entry) (live_view live.now) kept from app.now request.now answer.now) }
     {
-        let (send, note) = self.answering_again(alloc, live, from, post.by, request, answer)?;
-        let mut turn = Turn::hearing(BodyChange::Stay, kept, from, post.label);
-        turn.said = Some(from);
-        Plan::of(alloc, turn, send, note)
+        let (send, note) = self.answering_again(alloc, live, from, app.by, request, answer)?;
+        let mut update = Update::hearing(BodyChange::Stay, kept, from, app.label);
+        update.said = Some(from);
+        Plan::of(alloc, update, send, note)
     }
 
     /// The request that the worker waits with, and the note that the shard heard it.
@@ -68,16 +66,16 @@ impl View<'_> {
         alloc: Global,
         kept: KeptChange,
         from: NodeId,
-        post: &Post,
+        app: &AppMessage,
         request: &Request,
     ) -> Result<Plan, AllocError>
-        ensures { IfOk result (λ plan. plan ≡ hearing kept from post.now.label (Wait (node_number from) request.now)
-            (note_of self.entry.role.id post.now.by (node_number from) request.now Heard)) }
+        ensures { IfOk result (λ plan. plan ≡ hearing kept from app.now.label (Wait (node_number from) request.now)
+            (note_of self.entry.role.id app.now.by (node_number from) request.now Heard)) }
     {
         let worker = from.number();
-        let (request, note) = self.waiting(alloc, post.by, worker, request)?;
+        let (request, note) = self.waiting(alloc, app.by, worker, request)?;
         let body = BodyChange::Wait { worker, request };
-        hearing(alloc, kept, from, post.label, body, note)
+        hearing(alloc, kept, from, app.label, body, note)
     }
 
     /// The note of what is ignored about a request of the worker of this number: an answer, or the request.
@@ -105,16 +103,16 @@ impl View<'_> {
         alloc: Global,
         kept: KeptChange,
         from: NodeId,
-        post: &Post,
+        app: &AppMessage,
         worker: u8,
         request: &Request,
         answer: Option<&Answer>,
     ) -> Result<Plan, AllocError>
-        ensures { IfOk result (λ plan. plan ≡ hearing kept from post.now.label Stay
-            (note_of self.entry.role.id post.now.by worker request.now (Ignored (option_copied answer.entry)))) }
+        ensures { IfOk result (λ plan. plan ≡ hearing kept from app.now.label Stay
+            (note_of self.entry.role.id app.now.by worker request.now (Ignored (option_copied answer.entry)))) }
     {
-        let note = self.note_ignored(alloc, post.by, worker, request, answer)?;
-        hearing(alloc, kept, from, post.label, BodyChange::Stay, note)
+        let note = self.note_ignored(alloc, app.by, worker, request, answer)?;
+        hearing(alloc, kept, from, app.label, BodyChange::Stay, note)
     }
 
     /// A shard hears a request, and this comes of it.
@@ -124,22 +122,22 @@ impl View<'_> {
         live: &Live,
         kept: KeptChange,
         from: NodeId,
-        post: &Post,
+        app: &AppMessage,
         request: &Request,
         arrival: Arrival<'_>,
     ) -> Result<Plan, AllocError>
         requires { CanCount (live_view live.now) }
         ensures { IfOk result (λ plan. plan ≡
-            request_plan (view_of self.entry) (live_view live.now) kept from post.now request.now
+            request_plan (view_of self.entry) (live_view live.now) kept from app.now request.now
             (arrival_view arrival.entry)) }
     {
         match arrival {
-            Arrival::Waits => self.waiting_plan(alloc, kept, from, post, request),
+            Arrival::Waits => self.waiting_plan(alloc, kept, from, app, request),
             Arrival::Again(answer) => {
-                self.again_plan(alloc, live, kept, from, post, request, answer)
+                self.again_plan(alloc, live, kept, from, app, request, answer)
             }
             Arrival::Ignored => {
-                self.ignoring_plan(alloc, kept, from, post, from.number(), request, None)
+                self.ignoring_plan(alloc, kept, from, app, from.number(), request, None)
             }
         }
     }
@@ -181,23 +179,16 @@ impl View<'_> {
         hearer: Worker,
         kept: KeptChange,
         from: NodeId,
-        post: &Post,
+        app: &AppMessage,
         request: &Request,
         answer: &Answer,
     ) -> Result<Plan, AllocError>
-        ensures { IfOk result (λ plan. plan ≡ hearing kept from post.now.label (Work hearer)
-            (note_of self.entry.role.id post.now.by (node_number self.entry.role.id) request.now
+        ensures { IfOk result (λ plan. plan ≡ hearing kept from app.now.label (Work hearer)
+            (note_of self.entry.role.id app.now.by (node_number self.entry.role.id) request.now
             (Accepted answer.now))) }
     {
-        let note = self.note_accepted(alloc, post.by, request, answer)?;
-        hearing(
-            alloc,
-            kept,
-            from,
-            post.label,
-            BodyChange::Work(hearer),
-            note,
-        )
+        let note = self.note_accepted(alloc, app.by, request, answer)?;
+        hearing(alloc, kept, from, app.label, BodyChange::Work(hearer), note)
     }
 
     /// A worker hears a reply.
@@ -207,19 +198,17 @@ impl View<'_> {
         worker: &Worker,
         kept: KeptChange,
         from: NodeId,
-        post: &Post,
+        app: &AppMessage,
         request: &Request,
         answer: &Answer,
     ) -> Result<Plan, AllocError>
         ensures { IfOk result (λ plan. plan ≡
-            reply_plan (view_of self.entry) worker.now kept from post.now request.now answer.now) }
+            reply_plan (view_of self.entry) worker.now kept from app.now request.now answer.now) }
     {
         let number = self.role.id.number();
         match self.heard_by(alloc, worker, request, answer)? {
-            Some(hearer) => {
-                self.accepting_plan(alloc, hearer, kept, from, post, request, answer)
-            }
-            None => self.ignoring_plan(alloc, kept, from, post, number, request, Some(answer)),
+            Some(hearer) => { self.accepting_plan(alloc, hearer, kept, from, app, request, answer) }
+            None => self.ignoring_plan(alloc, kept, from, app, number, request, Some(answer)),
         }
     }
 
@@ -230,27 +219,27 @@ impl View<'_> {
         live: &Live,
         kept: KeptChange,
         from: NodeId,
-        post: &Post,
+        app: &AppMessage,
     ) -> Result<Plan, AllocError>
         requires { CanCount (live_view live.now) }
         ensures { IfOk result (λ plan. plan ≡
-            heard_plan (view_of self.entry) (live_view live.now) kept from post.now) }
+            heard_plan (view_of self.entry) (live_view live.now) kept from app.now) }
     {
         let number = from.number();
-        match (&live.body, &post.talk) {
+        match (&live.body, &app.talk) {
             (Body::Worker(worker), Talk::Reply { request, answer }) => {
-                self.reply_plan(alloc, worker, kept, from, post, request, answer)
+                self.reply_plan(alloc, worker, kept, from, app, request, answer)
             }
             (Body::Worker(_), Talk::Request(request)) => {
                 let own = self.role.id.number();
-                self.ignoring_plan(alloc, kept, from, post, own, request, None)
+                self.ignoring_plan(alloc, kept, from, app, own, request, None)
             }
             (Body::Shard(shard), Talk::Request(request)) => {
                 let arrival = shard.arrival(number, request);
-                self.request_plan(alloc, live, kept, from, post, request, arrival)
+                self.request_plan(alloc, live, kept, from, app, request, arrival)
             }
             (Body::Shard(_), Talk::Reply { request, answer }) => {
-                self.ignoring_plan(alloc, kept, from, post, number, request, Some(answer))
+                self.ignoring_plan(alloc, kept, from, app, number, request, Some(answer))
             }
         }
     }
@@ -267,6 +256,6 @@ fn hearing(
 ) -> Result<Plan, AllocError>
     ensures { IfOk result (λ p. p ≡ hearing kept from label body note) }
 {
-    let turn = Turn::hearing(body, kept, from, label);
-    Plan::of(alloc, turn, Outbox::empty(alloc), note)
+    let update = Update::hearing(body, kept, from, label);
+    Plan::of(alloc, update, Outbox::empty(alloc), note)
 }

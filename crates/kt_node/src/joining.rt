@@ -1,33 +1,29 @@
 //! How a node begins to vote in an instance.
+//! Cited by arrivals.rt, deciding.rt, failing.rt.
 
 ghost use Rattle.std.specs.Prelude.{◌≡◌, ◌++◌, All, IfOk, None, Some, filter};
 ghost use Rattle.std.specs.Option.{option_copied};
 ghost use Rattle.kt_ckpt.specs.Acts.{IsActOf};
 ghost use Rattle.kt_vote.specs.Order.{IsInOrder};
 ghost use Rattle.kt_vote.specs.Poll.{asking_poll};
-ghost use Rattle.kt_node.specs.Node.{across, neighbours};
+ghost use Rattle.kt_state.specs.Node.{across, neighbours};
 ghost use Rattle.kt_node.specs.View.{view_of};
-ghost use Rattle.kt_node.specs.Views.{role_view};
-ghost use Rattle.kt_node.specs.inner.Codes.{live_view};
+ghost use Rattle.kt_state.specs.Views.{role_view};
+ghost use Rattle.kt_state.specs.Codes.{live_view};
 ghost use Rattle.kt_node.specs.Saving.{CanSave};
 ghost use Rattle.kt_node.specs.Joining.{asker_of, begin_check_plan, cohort, is_in_cohort};
-ghost use Rattle.kt_node.specs.inner.Between.{held_ballot};
+ghost use Rattle.kt_node.specs.auxiliary.Between.{held_ballot};
 ghost use Rattle.kt_node.specs.Joining.{join_check_plan, join_rollback_plan, rolling_plan};
-ghost use Rattle.kt_node.specs.Plan.{turning_to};
-ghost use Rattle.kt_node.specs.Voting.{casting, poll_after, votes};
-ghost use Rattle.kt_node.specs.declared.live.Phase.TheVariants.{Held};
+ghost use Rattle.kt_state.specs.Updating.{updating_to};
+ghost use Rattle.kt_state.specs.Voting.{casting, poll_after, votes};
+ghost use Rattle.kt_state.specs.declared.live.Phase.TheVariants.{Held};
 
-use crate::asking::{Sent, check_asks, roll_asks};
-use crate::change::{Change, Turn};
-use crate::labels::{label_at, up_to};
-use crate::live::{Live, Phase};
-use crate::message::Ask;
-use crate::plan::{Outbox, Plan, Write};
-use crate::role::{Role, View};
-use crate::saving::checkpoint_of;
-use crate::stored::received_in;
-use crate::voting::{add_vote, cast};
-use kt_ckpt::{Acts, Marks};
+use crate::view::View;
+use kt_ckpt::{Acts, CkptHeader};
+use kt_state::{
+    Ask, Change, Live, Outbox, Phase, Plan, Role, Sent, Update, Write, add_vote, cast, check_asks,
+    checkpoint_of, label_at, received_in, roll_asks, up_to,
+};
 use kt_tuple::NodeId;
 use kt_vote::{Asker, Ballot};
 use std::alloc::{AllocError, Global};
@@ -53,7 +49,7 @@ fn across(node: NodeId, number: u8) -> NodeId
 }
 
 /// All neighbours, in node order.
-#[tactic(auto, using(crate::proofs::Numbers::mapped_none, crate::proofs::Numbers::mapped_from_one))]
+#[tactic(auto, using(crate::proofs::Neighbours::none_yet, crate::proofs::Neighbours::one_more_yet))]
 pub(crate) fn neighbours(alloc: Global, role: Role<'_>) -> Result<Vec<NodeId>, AllocError>
     ensures value { IfOk result (λ v. v.items ≡ neighbours (role_view role.entry)) }
     ensures in_order { IfOk result (λ v. IsInOrder v.items) }
@@ -66,7 +62,7 @@ pub(crate) fn neighbours(alloc: Global, role: Role<'_>) -> Result<Vec<NodeId>, A
 }
 
 /// Whether something of the node was heard that the permanent checkpoint has not received.
-fn is_in_cohort(permanent: Option<&Marks>, live: &Live, node: NodeId) -> bool
+fn is_in_cohort(permanent: Option<&CkptHeader>, live: &Live, node: NodeId) -> bool
     ensures { result ≡ is_in_cohort (option_copied permanent.entry) (live_view live.now) node }
 {
     !up_to(label_at(&live.received, node), received_in(permanent, node))
@@ -76,7 +72,7 @@ fn is_in_cohort(permanent: Option<&Marks>, live: &Live, node: NodeId) -> bool
 fn cohort(
     alloc: Global,
     role: Role<'_>,
-    permanent: Option<&Marks>,
+    permanent: Option<&CkptHeader>,
     live: &Live,
 ) -> Result<Vec<NodeId>, AllocError>
     ensures value { IfOk result (λ v. v.items ≡
@@ -112,9 +108,9 @@ fn held_ballot(alloc: Global, live: &Live, ballot: Ballot) -> Result<(Ballot, Ou
 /// The node is held with this ballot and sends these, and its tentative checkpoint is stored.
 fn held_plan(alloc: Global, ballot: Ballot, send: Outbox, write: Write) -> Result<Plan, AllocError>
     ensures { IfOk result (λ p. p ≡
-        record { change = turning_to (Held ballot); send = send; note = None; write = Some write }) }
+        record { change = updating_to (Held ballot); send = send; note = None; write = Some write }) }
 {
-    let change = Change::turning(alloc, Turn::to(Phase::Held(ballot)))?;
+    let change = Change::turning(alloc, Update::to(Phase::Held(ballot)))?;
     Ok(Plan::writing(change, send, write))
 }
 
@@ -125,19 +121,19 @@ fn rolling_plan(
     live: &Live,
     from: NodeId,
     ask: Ask,
-    permanent: Option<&Marks>,
+    permanent: Option<&CkptHeader>,
     ballot: Ballot,
 ) -> Result<Plan, AllocError>
     ensures { IfOk result (λ p. p ≡ rolling_plan (live_view live.now) from ask (option_copied permanent.entry) ballot) }
 {
     let mut ballot = ballot;
     let (instance, incarnation) = (ballot.instance(), live.incarnation);
-    let sent = Sent::Marks(permanent);
+    let sent = Sent::CkptHeader(permanent);
     let send = roll_asks(alloc, instance, incarnation, sent, ballot.asked())?;
     let send = then_vote(send, &mut ballot)?;
-    let mut turn = Turn::sieving(from, ask.label);
-    turn.phase = Some(Phase::Rolling(ballot));
-    Plan::of(alloc, turn, send, None)
+    let mut update = Update::sieving(from, ask.label);
+    update.phase = Some(Phase::Rolling(ballot));
+    Plan::of(alloc, update, send, None)
 }
 
 impl View<'_> {
@@ -147,7 +143,7 @@ impl View<'_> {
         alloc: Global,
         live: &Live,
         instance: u64,
-        permanent: Option<&Marks>,
+        permanent: Option<&CkptHeader>,
         acts: Acts,
     ) -> Result<Plan, AllocError>
         requires can { CanSave (view_of self) (live_view live.now) }
@@ -170,7 +166,7 @@ impl View<'_> {
         live: &Live,
         from: NodeId,
         ask: Ask,
-        permanent: Option<&Marks>,
+        permanent: Option<&CkptHeader>,
         acts: Acts,
     ) -> Result<Plan, AllocError>
         requires can { CanSave (view_of self) (live_view live.now) }
@@ -200,7 +196,7 @@ impl View<'_> {
         live: &Live,
         from: NodeId,
         ask: Ask,
-        permanent: Option<&Marks>,
+        permanent: Option<&CkptHeader>,
     ) -> Result<Plan, AllocError>
         ensures { IfOk result (λ p. p ≡
             join_rollback_plan (view_of self.entry) (live_view live.now) from ask (option_copied permanent.entry)) }

@@ -1,22 +1,21 @@
 //! What a verdict makes of a node.
+//! Cited by arrivals.rt, deciding.rt, failing.rt.
 
 ghost use Rattle.std.specs.Prelude.{◌≡◌, ◌+◌, ◌<◌, ◌^◌, IfOk, Ok, Some, false, true};
-ghost use Rattle.kt_node.specs.Plan.{Gives};
+ghost use Rattle.kt_state.specs.Refusing.{Gives};
 ghost use Rattle.kt_node.specs.View.{view_of};
 ghost use Rattle.kt_node.specs.Learning.{cut_of, down_learns, held_learns, release_plan};
 ghost use Rattle.kt_node.specs.Learning.{restored, rolling_learns, verdict_to};
 ghost use Rattle.kt_node.specs.Loading.{load};
-ghost use Rattle.kt_node.specs.declared.change.Change.TheVariants.{Load};
-ghost use Rattle.kt_node.specs.declared.plan.Write.TheVariants.{Bump};
+ghost use Rattle.kt_state.specs.declared.change.Change.TheVariants.{Load};
+ghost use Rattle.kt_state.specs.declared.plan.Write.TheVariants.{Bump};
 
-use crate::change::{BodyChange, Change, KeptChange, Loaded, Turn};
-use crate::live::Phase;
-use crate::message::Message;
-use crate::plan::{Outbox, Plan, Write};
-use crate::refusal::Refusal;
-use crate::role::View;
-use crate::stored::Stored;
+use crate::view::View;
 use kt_history::Note;
+use kt_state::{
+    BodyChange, Change, KeptChange, Loaded, Message, Outbox, Phase, Plan, Refusal, Stored, Update,
+    Write,
+};
 use kt_tuple::NodeId;
 use std::alloc::{AllocError, Global};
 
@@ -48,7 +47,7 @@ pub(crate) fn cut_of(node: NodeId, keep: u64) -> Option<Note>
 pub(crate) fn held_learns(alloc: Global, yes: bool, send: Outbox) -> Result<Plan, AllocError>
     ensures { IfOk result (λ p. p ≡ held_learns yes send) }
 {
-    let turn = Turn {
+    let update = Update {
         body: BodyChange::Stay,
         kept: KeptChange::Stay,
         heard: None,
@@ -57,7 +56,7 @@ pub(crate) fn held_learns(alloc: Global, yes: bool, send: Outbox) -> Result<Plan
         phase: Some(Phase::Up),
     };
     let write = if yes { Write::Promote } else { Write::Discard };
-    Ok(Plan::writing(Change::turning(alloc, turn)?, send, write))
+    Ok(Plan::writing(Change::turning(alloc, update)?, send, write))
 }
 
 /// The rollback got No, which goes on to these: the node goes on as it is.
@@ -65,10 +64,10 @@ fn release_plan(alloc: Global, instance: u64, asked: &[NodeId]) -> Result<Plan, 
     ensures { Gives result (Ok (release_plan (verdict_to instance false asked.now))) }
 {
     let send = verdict_to(alloc, instance, false, asked)?;
-    Ok(Plan::of(alloc, Turn::to(Phase::Up), send, None)?)
+    Ok(Plan::of(alloc, Update::to(Phase::Up), send, None)?)
 }
 
-/// The rollback got Yes: the node becomes this one, and its line is cut.
+/// The rollback got Yes: the node becomes this one, and its log is cut.
 fn restoring_plan(
     alloc: Global,
     loaded: Loaded,
@@ -87,7 +86,7 @@ fn restoring_plan(
 
 impl View<'_> {
     /// What a participant of a rollback does with the verdict, which it passes on to these. With Yes it goes on
-    /// from its permanent checkpoint in the next incarnation, and its line is cut to it.
+    /// from its permanent checkpoint in the next incarnation, and its log is cut to it.
     pub(crate) fn rolling_learns(
         self,
         alloc: Global,
@@ -124,7 +123,7 @@ impl View<'_> {
         Ok(restoring_plan(alloc, loaded, note, send)?)
     }
 
-    /// What a node that is down with a tentative checkpoint does with the verdict; it stays down. With No its line
+    /// What a node that is down with a tentative checkpoint does with the verdict; it stays down. With No its log
     /// is cut to the permanent one.
     pub(crate) fn down_learns(
         self,

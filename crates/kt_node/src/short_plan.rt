@@ -1,29 +1,29 @@
 //! The plans of the frequent steps of workers and shards. A `Plan` stands on the heap in part, and goes through many
 //! hands; a short one takes no memory for itself and goes through few (docs/DECISIONS.md#steps).
+//! Cited by kt_core.
 
 ghost use Rattle.std.specs.Prelude.{◌≡◌, ◌≤◌, IfOk, IfSome, IsOk, OnErr, Ok};
-ghost use Rattle.kt_worker.specs.Standing.{next_request};
+ghost use Rattle.kt_worker.specs.WorkerModel.{next_request};
 ghost use Rattle.kt_history.specs.declared.note.What.TheVariants.{Heard as HeardIt};
 ghost use Rattle.kt_shard.specs.Arrival.{arrival_view};
-ghost use Rattle.kt_node.specs.declared.change.BodyChange.TheVariants.{Wait};
-ghost use Rattle.kt_node.specs.declared.change.KeptChange.TheVariants.{Stay as Keeps};
+ghost use Rattle.kt_state.specs.declared.change.BodyChange.TheVariants.{Wait};
+ghost use Rattle.kt_state.specs.declared.change.KeptChange.TheVariants.{Stay as Keeps};
 ghost use Rattle.kt_node.specs.ShortPlan.{plan_of};
-ghost use Rattle.kt_node.specs.inner.Codes.{live_view};
-ghost use Rattle.kt_node.specs.Posts.{hear_app};
-ghost use Rattle.kt_node.specs.Ready.{CanCount, CanSpeak};
+ghost use Rattle.kt_state.specs.Codes.{live_view};
+ghost use Rattle.kt_node.specs.AppMessages.{hear_app};
+ghost use Rattle.kt_state.specs.Ready.{CanCount};
+ghost use Rattle.kt_node.specs.Speaking.{CanSpeak};
 ghost use Rattle.kt_node.specs.Steps.{issue, issue_found, serve};
-ghost use Rattle.kt_node.specs.Node.{node_number};
+ghost use Rattle.kt_state.specs.Node.{node_number};
 ghost use Rattle.kt_node.specs.Talking.{again_plan, heard_plan, hearing, issue_plan, note_of};
 ghost use Rattle.kt_node.specs.Talking.{reply_plan, request_plan, service_plan};
 ghost use Rattle.kt_node.specs.View.{view_of};
 
-use crate::live::{Body, Live};
-use crate::message::{Message, Post, Talk};
-use crate::role::View;
-use crate::short_turn::ShortTurn;
 use crate::steps::{can_issue, issued};
+use crate::view::View;
 use kt_history::{Note, What};
 use kt_shard::{Arrival, Prepared, Request};
+use kt_state::{AppMessage, Body, Live, Message, ShortUpdate, Talk};
 use kt_tuple::{Answer, NodeId};
 use kt_worker::Worker;
 use std::alloc::{AllocError, Global};
@@ -32,7 +32,7 @@ use std::alloc::{AllocError, Global};
 #[derive(Debug, Drop)]
 pub struct ShortPlan {
     /// What becomes of the owner.
-    pub turn: ShortTurn,
+    pub update: ShortUpdate,
     /// What it sends, with the receiver.
     pub send: Option<(NodeId, Message)>,
     /// What is noted in the history.
@@ -55,9 +55,9 @@ impl View<'_> {
     {
         let to = self.home(&request.op);
         let note = self.note(alloc, 0, self.role.id.number(), &request, What::Issue)?;
-        let message = self.post(live, Talk::Request(request));
+        let message = self.app(live, Talk::Request(request));
         Ok(ShortPlan {
-            turn: ShortTurn::Asks { to, asker },
+            update: ShortUpdate::Asks { to, asker },
             send: Some((to, message)),
             note,
         })
@@ -121,9 +121,9 @@ impl View<'_> {
             request: request.copy(alloc)?,
             answer: service.answer().copy(alloc)?,
         };
-        let message = self.post(live, talk);
+        let message = self.app(live, talk);
         Ok(ShortPlan {
-            turn: ShortTurn::Serves { worker, service },
+            update: ShortUpdate::Serves { worker, service },
             send: Some((NodeId::Worker(worker), message)),
             note,
         })
@@ -162,17 +162,17 @@ impl View<'_> {
         self,
         alloc: Global,
         from: NodeId,
-        post: &Post,
+        app: &AppMessage,
         request: &Request,
     ) -> Result<ShortPlan, AllocError>
-        ensures { IfOk result (λ e. plan_of e ≡ hearing Keeps from post.now.label (Wait (node_number from) request.now)
-            (note_of self.entry.role.id post.now.by (node_number from) request.now HeardIt)) }
+        ensures { IfOk result (λ e. plan_of e ≡ hearing Keeps from app.now.label (Wait (node_number from) request.now)
+            (note_of self.entry.role.id app.now.by (node_number from) request.now HeardIt)) }
     {
-        let (request, note) = self.waiting(alloc, post.by, from.number(), request)?;
+        let (request, note) = self.waiting(alloc, app.by, from.number(), request)?;
         Ok(ShortPlan {
-            turn: ShortTurn::Waits {
+            update: ShortUpdate::Waits {
                 from,
-                label: post.label,
+                label: app.label,
                 request,
             },
             send: None,
@@ -186,25 +186,25 @@ impl View<'_> {
         alloc: Global,
         live: &Live,
         from: NodeId,
-        post: &Post,
+        app: &AppMessage,
         request: &Request,
         answer: &Answer,
     ) -> Result<ShortPlan, AllocError>
         requires { CanCount (live_view live.now) }
         ensures { IfOk result (λ e. plan_of e ≡
-            again_plan (view_of self.entry) (live_view live.now) Keeps from post.now request.now answer.now) }
+            again_plan (view_of self.entry) (live_view live.now) Keeps from app.now request.now answer.now) }
     {
         let what = What::Again(answer.copy(alloc)?);
-        let note = self.note(alloc, post.by, from.number(), request, what)?;
+        let note = self.note(alloc, app.by, from.number(), request, what)?;
         let talk = Talk::Reply {
             request: request.copy(alloc)?,
             answer: answer.copy(alloc)?,
         };
-        let message = self.post(live, talk);
+        let message = self.app(live, talk);
         Ok(ShortPlan {
-            turn: ShortTurn::Answers {
+            update: ShortUpdate::Answers {
                 from,
-                label: post.label,
+                label: app.label,
             },
             send: Some((from, message)),
             note,
@@ -217,21 +217,21 @@ impl View<'_> {
         alloc: Global,
         worker: &Worker,
         from: NodeId,
-        post: &Post,
+        app: &AppMessage,
         request: &Request,
         answer: &Answer,
     ) -> Result<Option<ShortPlan>, AllocError>
         ensures { IfOk result (λ o. IfSome o (λ e.
-            reply_plan (view_of self.entry) worker.now Keeps from post.now request.now answer.now ≡ plan_of e)) }
+            reply_plan (view_of self.entry) worker.now Keeps from app.now request.now answer.now ≡ plan_of e)) }
     {
         let Some(hearer) = self.heard_by(alloc, worker, request, answer)? else {
             return Ok(None);
         };
-        let note = self.note_accepted(alloc, post.by, request, answer)?;
+        let note = self.note_accepted(alloc, app.by, request, answer)?;
         Ok(Some(ShortPlan {
-            turn: ShortTurn::Accepts {
+            update: ShortUpdate::Accepts {
                 from,
-                label: post.label,
+                label: app.label,
                 hearer,
             },
             send: None,
@@ -245,19 +245,19 @@ impl View<'_> {
         alloc: Global,
         live: &Live,
         from: NodeId,
-        post: &Post,
+        app: &AppMessage,
         request: &Request,
         arrival: Arrival<'_>,
     ) -> Result<Option<ShortPlan>, AllocError>
         requires { CanCount (live_view live.now) }
         ensures { IfOk result (λ o. IfSome o (λ e.
-            request_plan (view_of self.entry) (live_view live.now) Keeps from post.now request.now
+            request_plan (view_of self.entry) (live_view live.now) Keeps from app.now request.now
             (arrival_view arrival.entry) ≡ plan_of e)) }
     {
         match arrival {
-            Arrival::Waits => Ok(Some(self.short_waiting(alloc, from, post, request)?)),
+            Arrival::Waits => Ok(Some(self.short_waiting(alloc, from, app, request)?)),
             Arrival::Again(answer) => {
-                Ok(Some(self.short_again(alloc, live, from, post, request, answer)?))
+                Ok(Some(self.short_again(alloc, live, from, app, request, answer)?))
             }
             Arrival::Ignored => Ok(None),
         }
@@ -270,22 +270,22 @@ impl View<'_> {
         alloc: Global,
         live: &Live,
         from: NodeId,
-        post: &Post,
+        app: &AppMessage,
     ) -> Result<Option<ShortPlan>, AllocError>
         requires { CanCount (live_view live.now) }
         ensures { IfOk result (λ o. IfSome o (λ e.
-            heard_plan (view_of self.entry) (live_view live.now) Keeps from post.now ≡ plan_of e)) }
+            heard_plan (view_of self.entry) (live_view live.now) Keeps from app.now ≡ plan_of e)) }
     {
-        match (&live.body, &post.talk) {
+        match (&live.body, &app.talk) {
             (Body::Worker(worker), Talk::Reply { request, answer }) => {
-                self.short_accepting(alloc, worker, from, post, request, answer)
+                self.short_accepting(alloc, worker, from, app, request, answer)
             }
             (Body::Shard(shard), Talk::Request(request)) => {
                 self.short_arrival(
                     alloc,
                     live,
                     from,
-                    post,
+                    app,
                     request,
                     shard.arrival(from.number(), request),
                 )
@@ -299,11 +299,11 @@ impl View<'_> {
         self,
         alloc: Global,
         from: NodeId,
-        post: &Post,
+        app: &AppMessage,
     ) -> Result<Option<ShortPlan>, AllocError>
         requires { CanSpeak self.node.now.node }
         ensures { IfOk result (λ o. IfSome o (λ e.
-            hear_app (view_of self.entry) from post.now ≡ Ok (plan_of e))) }
+            hear_app (view_of self.entry) from app.now ≡ Ok (plan_of e))) }
     {
         let Some(live) = self.up() else {
             return Ok(None);
@@ -311,6 +311,6 @@ impl View<'_> {
         if live.first_kept().is_some() {
             return Ok(None);
         }
-        self.short_talk(alloc, live, from, post)
+        self.short_talk(alloc, live, from, app)
     }
 }

@@ -1,23 +1,22 @@
 //! The steps of the underlying computation.
+//! Cited by at_once.rt, short_plan.rt; kt_core.
 
 ghost use Rattle.std.specs.Prelude.{◌≡◌, ◌≤◌, IfOk, is_some};
 ghost use Rattle.std.specs.Option.{option_copied, option_map};
-ghost use Rattle.kt_worker.specs.Standing.{issued, next_request};
-ghost use Rattle.kt_node.specs.inner.Codes.{live_view};
+ghost use Rattle.kt_worker.specs.WorkerModel.{issued, next_request};
+ghost use Rattle.kt_state.specs.Codes.{live_view};
 ghost use Rattle.kt_node.specs.View.{view_of};
-ghost use Rattle.kt_node.specs.Plan.{Gives};
-ghost use Rattle.kt_node.specs.Ready.{CanCount, CanSpeak};
+ghost use Rattle.kt_state.specs.Refusing.{Gives};
+ghost use Rattle.kt_state.specs.Ready.{CanCount};
+ghost use Rattle.kt_node.specs.Speaking.{CanSpeak};
 ghost use Rattle.kt_node.specs.Talking.{repeat_plan, request_for};
-ghost use Rattle.kt_node.specs.Steps.{first_kept, issue, issue_found, repeat, serve, take, unserved_as, up_of};
+ghost use Rattle.kt_state.specs.Kept.{first_kept};
+ghost use Rattle.kt_node.specs.Steps.{issue, issue_found, repeat, serve, take, unserved_as, up_of};
 
-use crate::change::KeptChange;
-use crate::live::{Body, Live, Phase};
-use crate::message::Post;
-use crate::plan::Plan;
-use crate::refusal::Refusal;
-use crate::role::View;
+use crate::view::View;
 use kt_script::Script;
 use kt_shard::{Request, ServeError};
+use kt_state::{AppMessage, Body, KeptChange, Live, Phase, Plan, Refusal};
 use kt_tuple::{NodeId, Op};
 use kt_worker::Worker;
 use std::alloc::{AllocError, Global};
@@ -61,22 +60,13 @@ fn unserved_as(refusal: ServeError) -> Refusal
     }
 }
 
-impl Live {
-    /// The message that was kept first, and who sent it; `None` where nothing is kept.
-    pub(crate) fn first_kept(&self) -> Option<&(NodeId, Post)>
-        ensures { option_copied result ≡ first_kept (live_view self.now) }
-    {
-        self.kept.front()
-    }
-}
-
 impl<'a> View<'a> {
     /// The parts of a node that is up; `None` where it is down, held or rolls back.
     pub(crate) fn up(self) -> Option<&'a Live>
         ensures { option_map (λ n. live_view n.now) result ≡ up_of self.entry.node.now.node }
     {
         let node = self.node;
-        let live = node.live.as_ref()?;
+        let live = node.live()?;
         match live.phase {
             Phase::Up => Some(live),
             Phase::Held(_) | Phase::Rolling(_) => None,
@@ -161,10 +151,10 @@ impl<'a> View<'a> {
         let Some(live) = self.up() else {
             return Err(Refusal::WrongMode);
         };
-        let Some((from, post)) = live.first_kept() else {
+        let Some((from, app)) = live.first_kept() else {
             return Err(Refusal::NothingThere);
         };
-        Ok(self.heard_plan(alloc, live, KeptChange::TakeFirst, *from, post)?)
+        Ok(self.heard_plan(alloc, live, KeptChange::TakeFirst, *from, app)?)
     }
 
     /// A shard serves the worker of this number, which waits there, with the match of this place, counted from 0 in

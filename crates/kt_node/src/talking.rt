@@ -1,38 +1,23 @@
 //! What workers and shards say to each other: the plans of the acts in which they hear nothing.
+//! Cited by at_once.rt, hearing.rt, short_plan.rt, steps.rt.
 
 ghost use Rattle.std.specs.Prelude.{◌≡◌, ◌≤◌, [], ◌∷◌, IfOk};
 ghost use Rattle.kt_history.specs.declared.note.What.TheVariants.{Again, Served};
-ghost use Rattle.kt_node.specs.declared.message.Talk.TheVariants.{Request as Asked, Reply as Replied};
-ghost use Rattle.kt_node.specs.Node.{next_label, node_number};
-ghost use Rattle.kt_node.specs.inner.Codes.{live_view};
+ghost use Rattle.kt_state.specs.declared.message.Talk.TheVariants.{Request as Asked, Reply as Replied};
+ghost use Rattle.kt_state.specs.Node.{next_label, node_number};
+ghost use Rattle.kt_state.specs.Codes.{live_view};
 ghost use Rattle.kt_node.specs.View.{view_of};
-ghost use Rattle.kt_node.specs.Ready.{CanCount};
-ghost use Rattle.kt_node.specs.Talking.{home, note_of, post_of, issue_plan, repeat_plan, service_plan};
+ghost use Rattle.kt_state.specs.Ready.{CanCount};
+ghost use Rattle.kt_node.specs.Talking.{home, note_of, app_of, issue_plan, repeat_plan, service_plan};
 
-use crate::change::{BodyChange, Turn};
-use crate::live::Live;
-use crate::message::{Message, Post, Talk};
-use crate::plan::{Outbox, Plan};
-use crate::role::View;
+use crate::view::View;
 use kt_history::{Act, Note, What};
 use kt_link::Label;
 use kt_shard::{Prepared, Request};
+use kt_state::{AppMessage, BodyChange, Live, Message, Outbox, Plan, Talk, Update};
 use kt_tuple::{Answer, NodeId, Op};
 use kt_worker::Worker;
 use std::alloc::{AllocError, Global};
-
-impl Live {
-    /// The label of the next underlying message, to whomever: its incarnation, and its count and one.
-    pub(crate) fn next_label(&self) -> Label
-        requires { CanCount (live_view self.now) }
-        ensures { result ≡ next_label (live_view self.now) }
-    {
-        Label {
-            incarnation: self.incarnation,
-            count: self.count + 1,
-        }
-    }
-}
 
 impl View<'_> {
     /// The note of an act of the node about a request of the worker of this number.
@@ -58,11 +43,11 @@ impl View<'_> {
     }
 
     /// The message in which the next note's act of the live node says this.
-    pub(crate) fn post(self, live: &Live, talk: Talk) -> Message
+    pub(crate) fn app(self, live: &Live, talk: Talk) -> Message
         requires { CanCount (live_view live.now) }
-        ensures { result ≡ post_of (view_of self.entry) (live_view live.now) talk }
+        ensures { result ≡ app_of (view_of self.entry) (live_view live.now) talk }
     {
-        Message::Post(Post {
+        Message::App(AppMessage {
             talk,
             label: live.next_label(),
             by: self.next(),
@@ -91,10 +76,10 @@ impl View<'_> {
     ) -> Result<Outbox, AllocError>
         requires { CanCount (live_view live.now) }
         ensures { IfOk result (λ send. send ≡
-            (to, post_of (view_of self.entry) (live_view live.now) (Asked request.now)) ∷ []) }
+            (to, app_of (view_of self.entry) (live_view live.now) (Asked request.now)) ∷ []) }
     {
         let talk = Talk::Request(request.copy(alloc)?);
-        Outbox::one(alloc, to, self.post(live, talk))
+        Outbox::one(alloc, to, self.app(live, talk))
     }
 
     /// What a worker says that asks for this, and the note of it.
@@ -110,7 +95,7 @@ impl View<'_> {
         ensures { IfOk result (λ said. said ≡ (
           (
             home self.entry.role.peers request.now.op,
-            post_of (view_of self.entry) (live_view live.now) (Asked request.now),
+            app_of (view_of self.entry) (live_view live.now) (Asked request.now),
           ) ∷ [],
           note_of self.entry.role.id 0 (node_number self.entry.role.id) request.now what,
         )) }
@@ -134,8 +119,8 @@ impl View<'_> {
             issue_plan (view_of self.entry) (live_view live.now) (request.now.number, request.now.op) asker) }
     {
         let (send, note) = self.asking(alloc, live, request, What::Issue)?;
-        let turn = Turn::saying(BodyChange::Work(asker), self.home(&request.op));
-        Plan::of(alloc, turn, send, note)
+        let update = Update::saying(BodyChange::Work(asker), self.home(&request.op));
+        Plan::of(alloc, update, send, note)
     }
 
     /// The worker asks once more.
@@ -151,8 +136,8 @@ impl View<'_> {
             repeat_plan (view_of self.entry) (live_view live.now) (request.now.number, request.now.op)) }
     {
         let (send, note) = self.asking(alloc, live, request, What::Repeat)?;
-        let turn = Turn::saying(BodyChange::Stay, self.home(&request.op));
-        Plan::of(alloc, turn, send, note)
+        let update = Update::saying(BodyChange::Stay, self.home(&request.op));
+        Plan::of(alloc, update, send, note)
     }
 
     /// The message in which the shard answers.
@@ -166,13 +151,13 @@ impl View<'_> {
     ) -> Result<Outbox, AllocError>
         requires { CanCount (live_view live.now) }
         ensures { IfOk result (λ send. send ≡
-            (to, post_of (view_of self.entry) (live_view live.now) (Replied request.now answer.now)) ∷ []) }
+            (to, app_of (view_of self.entry) (live_view live.now) (Replied request.now answer.now)) ∷ []) }
     {
         let talk = Talk::Reply {
             request: request.copy(alloc)?,
             answer: answer.copy(alloc)?,
         };
-        Outbox::one(alloc, to, self.post(live, talk))
+        Outbox::one(alloc, to, self.app(live, talk))
     }
 
     /// What a shard says that answers this, and the note of it.
@@ -188,7 +173,7 @@ impl View<'_> {
     ) -> Result<(Outbox, Option<Note>), AllocError>
         requires { CanCount (live_view live.now) }
         ensures { IfOk result (λ said. said ≡ (
-          (to, post_of (view_of self.entry) (live_view live.now) (Replied request.now answer.now)) ∷ [],
+          (to, app_of (view_of self.entry) (live_view live.now) (Replied request.now answer.now)) ∷ [],
           note_of self.entry.role.id by (node_number to) request.now what,
         )) }
     {
@@ -210,7 +195,7 @@ impl View<'_> {
         ensures { IfOk result (λ said. said ≡ (
           (
             to,
-            post_of (view_of self.entry) (live_view live.now)
+            app_of (view_of self.entry) (live_view live.now)
                 (Replied service.now.request service.now.answer),
           ) ∷ [],
           note_of self.entry.role.id by (node_number to) service.now.request (Served service.now.answer),
@@ -236,11 +221,11 @@ impl View<'_> {
     {
         let to = NodeId::Worker(worker);
         let (send, note) = self.serving(alloc, live, to, by, &service)?;
-        let turn = Turn::saying(BodyChange::Serve { worker, service }, to);
-        Plan::of(alloc, turn, send, note)
+        let update = Update::saying(BodyChange::Serve { worker, service }, to);
+        Plan::of(alloc, update, send, note)
     }
 
-    /// What a shard says that sends a kept answer again, and the note of it.
+    /// What a shard says that sends a cached answer again, and the note of it.
     pub(crate) fn answering_again(
         self,
         alloc: Global,
@@ -252,7 +237,7 @@ impl View<'_> {
     ) -> Result<(Outbox, Option<Note>), AllocError>
         requires { CanCount (live_view live.now) }
         ensures { IfOk result (λ said. said ≡ (
-          (to, post_of (view_of self.entry) (live_view live.now) (Replied request.now answer.now)) ∷ [],
+          (to, app_of (view_of self.entry) (live_view live.now) (Replied request.now answer.now)) ∷ [],
           note_of self.entry.role.id by (node_number to) request.now (Again answer.now),
         )) }
     {

@@ -1,8 +1,9 @@
 -- Asks dropped, refused and granted.
+-- Cited by Joins, Main, Starts.
 use Rattle.std.proofs.Common.{◌≡◌, ◌≢◌, ◌⊎◌, ℕ, Bool, true, false, IsTrue, List, ◌∷◌, ◌++◌, inl, inr, refl, sym, ap, subst}
 use Rattle.kt_protocol.specs.Labels.{Label}
-use Rattle.kt_protocol.specs.Lines.{IsIn, here, there}
-use Rattle.kt_protocol.specs.Machine.{Instance, Check, Rollback, Key, Ballot, Post, Message, App, Ask, Vote, Member, Node, Board, State}
+use Rattle.kt_protocol.specs.Logs.{IsIn, here, there}
+use Rattle.kt_protocol.specs.Machine.{Instance, Check, Rollback, Key, Ballot, AppMessage, Message, App, Ask, Vote, Member, Node, Board, State}
 use Rattle.kt_protocol.specs.Steps.{change, pull, sieved, sifting, answering, MayAgree}
 use Rattle.kt_protocol.specs.Runs.{AreNeighbours}
 use Rattle.kt_protocol.proofs.Labels.{at-here, at-else}
@@ -21,19 +22,19 @@ ask-front (later ne a) = inr (ne, a)
 pub no-ask-front : {i : Instance} {c : ℕ} {m : Message} {rest : List Message} → NoAsk i c (m ∷ rest) → (l : Label) → Ask i l c ≢ m
 no-ask-front {i} {c} {m} {rest} none l e = none l (subst (λ a. IsIn (Ask i l c) (a ∷ rest)) e here)
 
-pub sieved-part : (i : Instance) (l : Label) (ks : List Post) → Sub (sieved i l ks) ks
+pub sieved-part : (i : Instance) (l : Label) (ks : List AppMessage) → Sub (sieved i l ks) ks
 sieved-part (Check k) l ks = Sub-refl ks
 sieved-part (Rollback k) l ks = sieve-part l ks
 
-abbrev sieved_by : Message → List Post → List Post
+abbrev sieved_by : Message → List AppMessage → List AppMessage
 sieved_by (App m) ks = ks
 sieved_by (Ask i l c) ks = sieved i l ks
 
-low-sieved : (i : Instance) (top : Label) (ks : List Post) → KeptUpTo i top (sieved i top ks)
+low-sieved : (i : Instance) (top : Label) (ks : List AppMessage) → KeptUpTo i top (sieved i top ks)
 low-sieved (Check k) top ks = tt
 low-sieved (Rollback k) top ks = sieve-in top ks
 
-low-part : (i : Instance) (top : Label) {xs ys : List Post} → Sub xs ys → KeptUpTo i top ys → KeptUpTo i top xs
+low-part : (i : Instance) (top : Label) {xs ys : List AppMessage} → Sub xs ys → KeptUpTo i top ys → KeptUpTo i top xs
 low-part (Check k) top s f = tt
 low-part (Rollback k) top s f = λ m i. f m (Sub-in s i)
 
@@ -41,7 +42,7 @@ behind-ask : (B : Board) (i j : Instance) (l : Label) (z : ℕ) (rest : List Mes
 behind-ask B (Check k) j l z rest b = tt
 behind-ask B (Rollback k) j l z rest b = record { bare = b.bare; unasked = λ m n c i. b.unasked m n c (there i) }
 
-pub calm-ask : {B : Board} (i : Instance) {c : ℕ} {top : Label} {j : Instance} {l : Label} {z : ℕ} {rest : List Message} (kept : List Post)
+pub calm-ask : {B : Board} (i : Instance) {c : ℕ} {top : Label} {j : Instance} {l : Label} {z : ℕ} {rest : List Message} (kept : List AppMessage)
     → Calm B i c top kept (Ask j l z ∷ rest) → Calm B i c top (sieved j l kept) rest
 calm-ask {B} i {top = top} {j} {l} {z} {rest} kept calm = record {
   none = λ m k. calm.none m (there k);
@@ -49,7 +50,7 @@ calm-ask {B} i {top = top} {j} {l} {z} {rest} kept calm = record {
   low = low-part i top (sieved-part j l kept) calm.low;
 }
 
-pub calm-asked : {B : Board} (i : Instance) {c : ℕ} {top : Label} {j : Instance} {l : Label} {z : ℕ} {rest : List Message} (kept : List Post)
+pub calm-asked : {B : Board} (i : Instance) {c : ℕ} {top : Label} {j : Instance} {l : Label} {z : ℕ} {rest : List Message} (kept : List AppMessage)
     → Ask i top c ≡ Ask j l z → NoAsk i c rest → Behind B i rest → Calm B i c top (sieved j l kept) rest
 calm-asked i {top = top} kept e none b = record {
   none = none;
@@ -81,10 +82,11 @@ other-key {i} {j} {x} {c} {z} {l = l} ne e =
     ne l (subst (λ k. Ask i l c ≡ Ask k l z) same (ap (λ n. Ask i l n) life))
 
 -- the ask at the front of the link is taken off: what becomes of the token of its key
-pub ask_token : (B : Board) (p q : ℕ) (np nq : Node) (kept : List Post) (j : Instance) (l : Label) (z : ℕ) (rest : List Message) (held : ℕ → List Post)
+pub ask_token : (B : Board) (p q : ℕ) (np nq : Node) (kept : List AppMessage) (j : Instance) (l : Label) (z : ℕ) (rest : List Message)
+    (held : ℕ → List AppMessage)
     (vs : List Vote) (i : Instance) (b : Ballot)
     → (((m : Label) → Ask i m np.life ≢ Ask j l z) → (y : Bool) → IsIn (a_vote i (a_key p np.life) y) vs → IsIn (a_vote i (a_key p np.life) y) nq.votes)
-    → (b.awaited q ≡ true → Ask i (top_of i np.line np.perm q) np.life ≡ Ask j l z → Calm B i np.life (top_of i np.line np.perm q) (sieved j l kept) rest
+    → (b.awaited q ≡ true → Ask i (top_of i np.log np.perm q) np.life ≡ Ask j l z → Calm B i np.life (top_of i np.log np.perm q) (sieved j l kept) rest
     → NoVote nq.votes i (a_key p np.life) → NoChild nq.joined i (a_key p np.life)
     → TokenOf B p q np record nq { kept = held; votes = vs } (sieved j l kept) rest i b)
     → TokenOf B p q np nq kept (Ask j l z ∷ rest) i b
@@ -98,7 +100,7 @@ ask_token B p q np nq kept j l z rest held vs i b other mine (waiting w c n k) =
 ask_token B p q np nq kept j l z rest held vs i b other mine (voted y c n f r v) =
     voted y (calm-ask i kept c) (λ u v. n u (other (no-ask-front c.none) u v)) f r v
 
-votes-token : (B : Board) (p q : ℕ) (np nq : Node) (kept : List Post) (link : List Message) (held : ℕ → List Post)
+votes-token : (B : Board) (p q : ℕ) (np nq : Node) (kept : List AppMessage) (link : List Message) (held : ℕ → List AppMessage)
     (vs : List Vote) (i : Instance) (b : Ballot)
     → ((y : Bool) → IsIn (a_vote i (a_key p np.life) y) vs → IsIn (a_vote i (a_key p np.life) y) nq.votes)
     → TokenOf B p q np nq kept link i b → TokenOf B p q np record nq { kept = held; votes = vs } kept link i b
@@ -115,9 +117,9 @@ step_answer : (peer : ℕ → ℕ → Bool) → AreNeighbours peer → (s : Stat
     → IsIn (a_vote i (a_key x c) y) (s.node o).votes ⊎ IsMember (s.node x).joined i c)
     → ((i : Instance) (c : ℕ) → ((m : Label) → Ask i m c ≢ Ask j l z) → (y : Bool) → IsIn (a_vote i (a_key x c) y) vs
     → IsIn (a_vote i (a_key x c) y) (s.node o).votes)
-    → ((kept : List Post) (held : ℕ → List Post) (i : Instance) (b : Ballot)
-    → b.awaited o ≡ true → Ask i (top_of i (s.node x).line (s.node x).perm o) (s.node x).life ≡ Ask j l z
-    → Calm s.board i (s.node x).life (top_of i (s.node x).line (s.node x).perm o) kept rest
+    → ((kept : List AppMessage) (held : ℕ → List AppMessage) (i : Instance) (b : Ballot)
+    → b.awaited o ≡ true → Ask i (top_of i (s.node x).log (s.node x).perm o) (s.node x).life ≡ Ask j l z
+    → Calm s.board i (s.node x).life (top_of i (s.node x).log (s.node x).perm o) kept rest
     → NoVote (s.node o).votes i (a_key x (s.node x).life) → NoChild (s.node o).joined i (a_key x (s.node x).life)
     → TokenOf s.board x o (s.node x) record (s.node o) { kept = held; votes = vs } kept rest i b)
     → Invariant peer s → Invariant peer (change o (λ n. record (sifting j x l n) { votes = vs }) (pull x o rest s))
@@ -137,7 +139,7 @@ step_answer peer near s o x j l z rest vs t first others members different mine 
     n : Node
     n = s.node o
 
-    ks : List Post
+    ks : List AppMessage
     ks = sieved j l (n.kept x)
 
     new : Node

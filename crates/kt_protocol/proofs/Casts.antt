@@ -1,13 +1,15 @@
 -- Votes cast.
+-- Cited by Main.
 use Rattle.std.proofs.Common.{◌≡◌, ◌⊎◌, ℕ, Bool, true, false, IsTrue, List, ◌∷◌, Some, None, inl, inr, refl, sym, ap, subst, ◌∙◌}
 use Rattle.std.proofs.lemmas.Bool.{cases_eq}
 use Rattle.kt_protocol.specs.Labels.{Label, Under, UpTo, at}
-use Rattle.kt_protocol.specs.Lines.{IsIn, here, there, top_sent, top_heard}
-use Rattle.kt_protocol.specs.Machine.{Instance, Check, Rollback, Open, Key, Ballot, Within, Post, Message, Ask, Vote, Mark, Node, Board, State, instance_of}
+use Rattle.kt_protocol.specs.Logs.{IsIn, here, there, top_sent, top_heard}
+use Rattle.kt_protocol.specs.Machine.{Instance, Check, Rollback, Open, Key, Ballot, Within, AppMessage, Message, Ask, Vote, Mark, Node, Board, State}
+use Rattle.kt_protocol.specs.Machine.{instance_of}
 use Rattle.kt_protocol.specs.Steps.{change, casting, saying, answering, IsAgreed}
 use Rattle.kt_protocol.specs.Runs.{AreNeighbours}
 use Rattle.kt_protocol.proofs.Labels.{UpTo-trans, Label-cases}
-use Rattle.kt_protocol.proofs.Lines.{sent-tail, sent-top, heard-attained}
+use Rattle.kt_protocol.proofs.Logs.{sent-tail, sent-top, heard-attained}
 use Rattle.kt_protocol.proofs.Streams.{in-cons}
 use Rattle.kt_protocol.proofs.Invariant.{core, a_vote, a_key, a_member, a_mark, IsMember, Gone, Caused, made, lost, cut_soon, Calm, Cover}
 use Rattle.kt_protocol.proofs.Invariant.{NoVote, OneChild, ChildrenSaid, HasVoted, asked, waiting, voted, Standing, top_of, TokenOf, Pair}
@@ -36,10 +38,11 @@ abbrev pub cast : Ballot → Ballot
 cast b = record b { voted = true }
 
 -- a participant casts its vote: the token of the asker
-cast_token : (B : Board) (p o : ℕ) (np n : Node) (kept : List Post) (link : List Message) (i : Instance) (b : Ballot) (k : Key) (y : Bool) (ms : List Mark)
+cast_token : (B : Board) (p o : ℕ) (np n : Node) (kept : List AppMessage) (link : List Message) (i : Instance) (b : Ballot) (k : Key) (y : Bool)
+    (ms : List Mark)
     (j : Instance) (d : Ballot) → n.mode ≡ Within i b → b.parent ≡ Some k → b.voted ≡ false → IsIn (a_member i n.life (Some k)) n.joined
     → ((m : Mark) → IsIn m n.said → IsIn m ms) → (y ≡ true → IsIn (a_mark i n.life) ms)
-    → (y ≡ true → j ≡ i → k ≡ a_key p np.life → Cover j (core n) p (top_of j np.line np.perm o))
+    → (y ≡ true → j ≡ i → k ≡ a_key p np.life → Cover j (core n) p (top_of j np.log np.perm o))
     → TokenOf B p o np n kept link j d → TokenOf B p o np (voter i (cast b) (a_vote i k y ∷ n.votes) ms n) kept link j d
 cast_token B p o np n kept link i b k y ms j d e par unvoted member grows said covers t = go t where
   new : Node
@@ -54,12 +57,12 @@ cast_token B p o np n kept link i b k y ms j d e par unvoted member grows said c
   has : HasVoted new.mode j key
   has c f g = sym (ap (λ t. t.voted) (voting-ballot f))
 
-  hit : d.awaited o ≡ true → Calm B j np.life (top_of j np.line np.perm o) kept link → NoVote n.votes j key → OneChild n.joined j key → j ≡ i → k ≡ key
+  hit : d.awaited o ≡ true → Calm B j np.life (top_of j np.log np.perm o) kept link → NoVote n.votes j key → OneChild n.joined j key → j ≡ i → k ≡ key
       → TokenOf B p o np new kept link j d
   hit w a none one f g = voted y a
       (λ z h. elim (in-cons h) [ inl e ↦ ap (λ v. v.agrees) e | inr r ↦ absurd (none z r) ])
       (λ yes. (
-        cover-vote i b (cast b) n new.votes ms j p (top_of j np.line np.perm o) e (covers yes f g),
+        cover-vote i b (cast b) n new.votes ms j p (top_of j np.log np.perm o) e (covers yes f g),
         λ c m. subst (λ t. IsIn (a_mark t c) ms) (sym f) (subst (λ t. IsIn (a_mark i t) ms) (one.1 n.life own ∙ sym (one.1 c m)) (said yes)),
       ))
       (λ f. true-false w f) has
@@ -77,34 +80,34 @@ cast_token B p o np n kept link i b k y ms j d e par unvoted member grows said c
     pick (inr f) _ = waiting w a (λ z h. none z (other (λ x y. f x) z h)) one
     pick (inl f) (inr g) = waiting w a (λ z h. none z (other (λ x y. g y) z h)) one
   go (voted z a only f r h) = voted z a (λ u v. only u (other ne u v))
-      (λ g. (cover-vote i b (cast b) n new.votes ms j p (top_of j np.line np.perm o) e (f g).0, λ c m. grows (a_mark j c) ((f g).1 c m))) r has
+      (λ g. (cover-vote i b (cast b) n new.votes ms j p (top_of j np.log np.perm o) e (f g).0, λ c m. grows (a_mark j c) ((f g).1 c m))) r has
     where
       ne : j ≡ i → k ≡ key → ⊥
       ne f g = true-false (h b (e ∙ ap (λ j. Within j b) (sym f)) (par ∙ ap Some g)) unvoted
 
 -- what a holder heard from a node that holds in the same check, that node's tentative checkpoint has sent
-held_cover : {peer : ℕ → ℕ → Bool} {B : Board} {p o : ℕ} {np n : Node} {kept : List Post} {link : List Message} (k : ℕ) (b d : Ballot)
+held_cover : {peer : ℕ → ℕ → Bool} {B : Board} {p o : ℕ} {np n : Node} {kept : List AppMessage} {link : List Message} (k : ℕ) (b d : Ballot)
     → n.mode ≡ Within (Check k) b → np.mode ≡ Within (Check k) d → np.tent ≡ Some k → B.verdict (Check k) ≡ Open
-    → Local peer B o n → Local peer B p np → Pair B o p n np kept link → Cover (Check k) (core n) p (top_heard np.line o)
+    → Local peer B o n → Local peer B p np → Pair B o p n np kept link → Cover (Check k) (core n) p (top_heard np.log o)
 held_cover {B = B} {p} {o} {np} {n} k b d e f tent opened w v r = inr (
   w.present (Check k) (b.parent, (w.ballot (Check k) b e).member) opened,
-  go (Label-cases (top_heard np.line o) (top_heard np.perm o)),
+  go (Label-cases (top_heard np.log o) (top_heard np.perm o)),
 ) where
-  caused : (y : ℕ) → Caused B o p (core n) np.mode np.perm y (top_heard np.line o) → UpTo (top_heard np.line o) (top_sent n.line p)
-  caused y (made j) = sent-top n.line w.falls j
+  caused : (y : ℕ) → Caused B o p (core n) np.mode np.perm y (top_heard np.log o) → UpTo (top_heard np.log o) (top_sent n.log p)
+  caused y (made j) = sent-top n.log w.falls j
   caused y (lost u) = absurd (subst Gone e u.gone)
   caused y (cut_soon c) = check-rollback (some-one (sym (ap instance_of f) ∙ c.rolls))
 
-  go : UpTo (top_heard np.line o) (top_heard np.perm o) ⊎ Under (top_heard np.perm o) (top_heard np.line o)
-      → UpTo (top_heard np.line o) (top_sent n.line p)
+  go : UpTo (top_heard np.log o) (top_heard np.perm o) ⊎ Under (top_heard np.perm o) (top_heard np.log o)
+      → UpTo (top_heard np.log o) (top_sent n.log p)
   go (inl u) = UpTo-trans u (UpTo-trans r.agree (sent-tail p w.tail w.falls))
-  go (inr u) = let h = heard-attained o v.tail u in caused h.0 (r.caused h.0 (top_heard np.line o) h.1)
+  go (inr u) = let h = heard-attained o v.tail u in caused h.0 (r.caused h.0 (top_heard np.log o) h.1)
 
 -- who stands behind a node whose ballot is agreed
 agreed_token : {peer : ℕ → ℕ → Bool} {s : State} (o : ℕ) (i : Instance) (b : Ballot) (q : ℕ) → (s.node o).mode ≡ Within i b → s.board.verdict i ≡ Open
     → IsAgreed peer o b → IsTrue (peer o q) → Invariant peer s
-    → Calm s.board i (s.node o).life (top_of i (s.node o).line (s.node o).perm q) ((s.node q).kept o) (s.link o q)
-    × Cover i (core (s.node q)) o (top_of i (s.node o).line (s.node o).perm q)
+    → Calm s.board i (s.node o).life (top_of i (s.node o).log (s.node o).perm q) ((s.node q).kept o) (s.link o q)
+    × Cover i (core (s.node q)) o (top_of i (s.node o).log (s.node o).perm q)
     × ChildrenSaid (s.node q).joined (s.node q).said i (a_key o (s.node o).life)
 agreed_token {s = s} o i b q e opened agreed t w = settled (s.node o) (s.node q) i b (agreed.complete q t) agreed.none
     ((w.pair o q t).token i b e (standing-open i b e opened (w.local o)))
@@ -122,12 +125,12 @@ says_unsaid {s = s} o i b q e agreed t w j l z h opened m = go (in-cons m) where
 says_cover : {peer : ℕ → ℕ → Bool} {s : State} (o : ℕ) (i : Instance) (b : Ballot) (q : ℕ) → (s.node o).mode ≡ Within i b → IsAgreed peer o b
     → IsTrue (peer o q) → Invariant peer s → (k : ℕ) → (s.node o).tent ≡ Some k
     → IsIn (a_mark (Check k) (s.node o).life) (a_mark i (s.node o).life ∷ (s.node o).said)
-    → Cover (Check k) (core (s.node q)) o (top_heard (s.node o).line q)
+    → Cover (Check k) (core (s.node q)) o (top_heard (s.node o).log q)
 says_cover {s = s} o i b q e agreed t w k tent m = go (in-cons m) where
   go : (a_mark (Check k) (s.node o).life ≡ a_mark i (s.node o).life) ⊎ IsIn (a_mark (Check k) (s.node o).life) (s.node o).said
-      → Cover (Check k) (core (s.node q)) o (top_heard (s.node o).line q)
+      → Cover (Check k) (core (s.node q)) o (top_heard (s.node o).log q)
   go (inl f) = let same : Check k ≡ i = ap (λ m. m.instance) f in
-      subst (λ i. Cover i (core (s.node q)) o (top_of i (s.node o).line (s.node o).perm q)) (sym same)
+      subst (λ i. Cover i (core (s.node q)) o (top_of i (s.node o).log (s.node o).perm q)) (sym same)
       (agreed_token o i b q e (subst (λ k. s.board.verdict k ≡ Open) same ((w.local o).holding k tent).0) agreed t w).1
   go (inr r) = (w.pair o q t).cover k tent r
 
@@ -158,7 +161,7 @@ says_trees {peer} {s} o i b new e agreed same_joined same_said w = Trees-same
           same = λ i. record { node = f i; life = g i }
 
 -- the votes of a participant after it cast
-cast_member : {B : Board} {p o : ℕ} {np n : Node} {kept : List Post} {link : List Message} (i : Instance) (k : Key) (y : Bool)
+cast_member : {B : Board} {p o : ℕ} {np n : Node} {kept : List AppMessage} {link : List Message} (i : Instance) (k : Key) (y : Bool)
     → (k.node ≡ p → IsMember np.joined i k.life) → Pair B p o np n kept link
     → (j : Instance) (z : ℕ) (v : Bool) → IsIn (a_vote j (a_key p z) v) (a_vote i k y ∷ n.votes) → IsMember np.joined j z
 cast_member {p = p} {np = np} {n} i k y parent r j z v h = go (in-cons h) where
@@ -201,7 +204,7 @@ step_agrees peer near s o i b k e par unvoted agreed w =
     member = subst (λ t. IsIn (a_member i n.life t) n.joined) par ((w.local o).ballot i b e).member
 
     covers : (p : ℕ) → IsTrue (peer p o) → (j : Instance) (d : Ballot) → (s.node p).mode ≡ Within j d → Standing s.board j (s.node p).tent → j ≡ i
-        → Cover j (core n) p (top_of j (s.node p).line (s.node p).perm o)
+        → Cover j (core n) p (top_of j (s.node p).log (s.node p).perm o)
     covers p u (Check m) d g st same = held_cover m b d (e ∙ ap (λ j. Within j b) (sym same)) g st ((w.local p).holding m st).0 (w.local o) (w.local p)
         (w.pair o p (near.both p o u))
     covers p u (Rollback m) d g st same = inl (ap instance_of e ∙ ap Some (sym same))
@@ -257,5 +260,5 @@ step_says peer near s o i b e par agreed w =
     token p j d (asked a k none f) = asked a k none f
     token p j d (waiting a k none f) = waiting a k none f
     token p j d (voted z k only g r h) = voted z k only
-        (λ f. (cover-vote i b (cast b) n n.votes ms j p (top_of j (s.node p).line (s.node p).perm o) e (g f).0, λ c m. there ((g f).1 c m))) r
+        (λ f. (cover-vote i b (cast b) n n.votes ms j p (top_of j (s.node p).log (s.node p).perm o) e (g f).0, λ c m. there ((g f).1 c m))) r
         (λ x f q. sym (ap (λ t. t.voted) (voting-ballot f)))

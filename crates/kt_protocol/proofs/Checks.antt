@@ -1,14 +1,16 @@
 -- A verdict on a check stands for all nodes at once.
+-- Cited by Main.
 use Rattle.std.proofs.Common.{◌≡◌, ◌≢◌, ◌⊎◌, ℕ, Bool, true, IsTrue, List, Option, Some, None, inl, inr, refl, sym, ap, subst, ◌∙◌}
 use Rattle.std.proofs.lemmas.Bool.{cases_eq, eq-eqb, ne_eqb}
 use Rattle.kt_protocol.specs.Labels.{Label, Under, UpTo}
-use Rattle.kt_protocol.specs.Lines.{IsIn, Act, IsTail, all, top_sent, top_heard}
-use Rattle.kt_protocol.specs.Machine.{Instance, Check, Rollback, Verdict, Open, Yes, No, Ballot, Mode, Up, Within, Down, Post, Message, Node, Board, State}
+use Rattle.kt_protocol.specs.Logs.{IsIn, Act, IsTail, all, top_sent, top_heard}
+use Rattle.kt_protocol.specs.Machine.{Instance, Check, Rollback, Verdict, Open, Yes, No, Ballot, Mode, Up, Within, Down, AppMessage, Message, Node, Board}
+use Rattle.kt_protocol.specs.Machine.{State}
 use Rattle.kt_protocol.specs.Machine.{instance_of, next_label}
 use Rattle.kt_protocol.specs.Steps.{decide, released, promoted, promote, discard}
 use Rattle.kt_protocol.specs.Runs.{AreNeighbours}
 use Rattle.kt_protocol.proofs.Labels.{UpTo-trans, UpTo-refl}
-use Rattle.kt_protocol.proofs.Lines.{sent-tail}
+use Rattle.kt_protocol.proofs.Logs.{sent-tail}
 use Rattle.kt_protocol.proofs.Streams.{Rising-map, Asked, Asked-map}
 use Rattle.kt_protocol.proofs.Invariant.{core, a_key, a_member, a_mark, IsMember, Undone, sent, undone, made, lost, cut_soon, Behind, Calm, Cover, Token}
 use Rattle.kt_protocol.proofs.Invariant.{Standing, Meant, top_of, TokenOf, Pair, Way, Engaged, Local, Invariant}
@@ -48,10 +50,10 @@ settle k perm n = record n { perm = perm; tent = released k n.tent }
 record Fits (n : Node) (perm : List Act) : Type 0 where
   same : n.tent ≡ None → perm ≡ n.perm
   grows : (q : ℕ) → UpTo (top_sent n.perm q) (top_sent perm q)
-  tail : IsTail perm n.line
-  bound : (q : ℕ) (l : Label) → Under (top_sent n.perm q) l → ((j : ℕ) → n.tent ≡ Some j → Under (top_sent n.line q) l) → Under (top_sent perm q) l
+  tail : IsTail perm n.log
+  bound : (q : ℕ) (l : Label) → Under (top_sent n.perm q) l → ((j : ℕ) → n.tent ≡ Some j → Under (top_sent n.log q) l) → Under (top_sent perm q) l
 
-settle-pair : {B C : Board} {p q : ℕ} {np nq : Node} {kept : List Post} {link : List Message} (k : ℕ) (pp pq : List Act) → Later B C
+settle-pair : {B C : Board} {p q : ℕ} {np nq : Node} {kept : List AppMessage} {link : List Message} (k : ℕ) (pp pq : List Act) → Later B C
     → ((j : ℕ) → C.verdict (Check j) ≡ Open → j ≢ k) → Fits np pp → Fits nq pq → Way np.mode np.tent → Way nq.mode nq.tent
     → UpTo (top_heard pq p) (top_sent pp q)
     → Pair B p q np nq kept link → Pair C p q (settle k pp np) (settle k pq nq) kept link
@@ -75,7 +77,7 @@ settle-pair {B} {C} {p} {q} {np} {nq} {kept} {link} k pp pq later past fp fq wp 
   };
   token = λ i b e s. token i b e s;
   votes = o.votes;
-  cover = λ j e s. let t = released-some k np.tent j e in cover (Check j) (λ m f. subst (λ z. z ≢ k) (check-one f) t.1) (top_heard np.line q) (o.cover j t.0 s);
+  cover = λ j e s. let t = released-some k np.tent j e in cover (Check j) (λ m f. subst (λ z. z ≢ k) (check-one f) t.1) (top_heard np.log q) (o.cover j t.0 s);
 } where
   undo : {l : Label} → Undone (core np) q l → Undone (core (settle k pp np)) q l
   undo {l} u = record {
@@ -97,7 +99,7 @@ settle-pair {B} {C} {p} {q} {np} {nq} {kept} {link} k pp pq later past fp fq wp 
   stands (Check j) s = let t = released-some k np.tent j s in (t.0, λ m f. subst (λ z. z ≢ k) (check-one f) t.1)
   stands (Rollback j) s = (later.live (Rollback j) s, λ m f. check-rollback (sym f))
 
-  same : (i : Instance) (b : Ballot) → np.mode ≡ Within i b → top_of i np.line np.perm q ≡ top_of i np.line pp q
+  same : (i : Instance) (b : Ballot) → np.mode ≡ Within i b → top_of i np.log np.perm q ≡ top_of i np.log pp q
   same (Check j) b e = refl
   same (Rollback j) b e = ap (λ t. top_sent t q) (sym (fp.same (rolling-none np.mode np.tent wp (ap instance_of e))))
 
@@ -107,7 +109,7 @@ settle-pair {B} {C} {p} {q} {np} {nq} {kept} {link} k pp pq later past fp fq wp 
       subst (λ top. Token i (a_key p np.life) (b.awaited q) b.refused (Asked i np.life top (Behind C i) link) (Calm C i np.life top kept link)
       (Cover i (core (settle k pq nq)) p top) nq.mode nq.votes nq.joined nq.said) (same i b e)
       (Token-map (λ a. Asked-map (λ rest. Behind-later i rest later) a) (Calm-later i later)
-      (cover i both.1 (top_of i np.line np.perm q)) (o.token i b e both.0))
+      (cover i both.1 (top_of i np.log np.perm q)) (o.token i b e both.0))
 
 settle-local : {peer : ℕ → ℕ → Bool} {B C : Board} {o : ℕ} {n : Node} (k : ℕ) (perm : List Act) → Later B C
     → ((j : ℕ) → C.verdict (Check j) ≡ Open → j ≢ k) → ((j : ℕ) → j ≢ k → B.verdict (Check j) ≡ Open → C.verdict (Check j) ≡ Open)
@@ -149,7 +151,7 @@ closed-check k v s ne j e f = ne (sym (decide-at (Check k) v s) ∙ subst (λ m.
 check-back : (k : ℕ) (v : Verdict) (s : State) (j : ℕ) → j ≢ k → s.board.verdict (Check j) ≡ Open → (decide (Check k) v s).board.verdict (Check j) ≡ Open
 check-back k v s j ne e = decide-check (Check k) v s j (λ f. ne (check-one f)) e
 
-fits-same : (n : Node) → IsTail n.perm n.line → Fits n n.perm
+fits-same : (n : Node) → IsTail n.perm n.log → Fits n n.perm
 fits-same n tail = record { same = λ e. refl; grows = λ q. UpTo-refl (top_sent n.perm q); tail = tail; bound = λ q l u h. u }
 
 pub step_gives_up_check : (peer : ℕ → ℕ → Bool) → (s : State) (k : ℕ) → s.board.begun (Check k) ≡ true
@@ -167,21 +169,21 @@ step_gives_up_check peer s k begun opened w = record {
   fits : (o : ℕ) → Fits (s.node o) (s.node o).perm
   fits o = fits-same (s.node o) (w.local o).tail
 
--- the permanent checkpoint with Yes: the line where this check holds, else the old one
-promoted-cases : (k : ℕ) (t : Option ℕ) (n : Node) → ((t ≡ Some k) × (promoted k t n ≡ n.line)) ⊎ ((t ≢ Some k) × (promoted k t n ≡ n.perm))
+-- the permanent checkpoint with Yes: the log where this check holds, else the old one
+promoted-cases : (k : ℕ) (t : Option ℕ) (n : Node) → ((t ≡ Some k) × (promoted k t n ≡ n.log)) ⊎ ((t ≢ Some k) × (promoted k t n ≡ n.perm))
 promoted-cases k None n = inr (λ e. none-some e, refl)
 promoted-cases k (Some j) n = go (cases_eq j k) where
-  go : (j ≡ k) ⊎ (j ≢ k) → ((Some j ≡ Some k) × (promoted k (Some j) n ≡ n.line)) ⊎ ((Some j ≢ Some k) × (promoted k (Some j) n ≡ n.perm))
+  go : (j ≡ k) ⊎ (j ≢ k) → ((Some j ≡ Some k) × (promoted k (Some j) n ≡ n.log)) ⊎ ((Some j ≢ Some k) × (promoted k (Some j) n ≡ n.perm))
   go (inl e) = inl (ap Some e, rw (eq-eqb j k e) refl)
   go (inr ne) = inr (λ e. ne (some-one e), rw (ne_eqb j k ne) refl)
 
 fits-promoted : {peer : ℕ → ℕ → Bool} {B : Board} {o : ℕ} (k : ℕ) (n : Node) → Local peer B o n → Fits n (promoted k n.tent n)
 fits-promoted k n w = go (promoted k n.tent n) (promoted-cases k n.tent n) where
-  go : (perm : List Act) → ((n.tent ≡ Some k) × (perm ≡ n.line)) ⊎ ((n.tent ≢ Some k) × (perm ≡ n.perm)) → Fits n perm
+  go : (perm : List Act) → ((n.tent ≡ Some k) × (perm ≡ n.log)) ⊎ ((n.tent ≢ Some k) × (perm ≡ n.perm)) → Fits n perm
   go perm (inl e) = record {
     same = λ none. some-none (sym e.0 ∙ none);
     grows = λ q. subst (λ t. UpTo (top_sent n.perm q) (top_sent t q)) (sym e.1) (sent-tail q w.tail w.falls);
-    tail = subst (λ t. IsTail t n.line) (sym e.1) all;
+    tail = subst (λ t. IsTail t n.log) (sym e.1) all;
     bound = λ q l u h. subst (λ t. Under (top_sent t q) l) (sym e.1) (h k e.0);
   }
   go perm (inr e) = subst (Fits n) (sym e.1) (fits-same n w.tail)
@@ -228,14 +230,14 @@ step_promotes peer near s o k b e par opened said w = record {
 
   agree : (p q : ℕ) → IsTrue (peer p q) → UpTo (top_heard (new q) p) (top_sent (new p) q)
   agree p q t = go (promoted-cases k (s.node q).tent (s.node q)) where
-    reached : Cover (Check k) (core (s.node p)) q (top_heard (s.node q).line p) → UpTo (top_heard (s.node q).line p) (top_sent (new p) q)
+    reached : Cover (Check k) (core (s.node p)) q (top_heard (s.node q).log p) → UpTo (top_heard (s.node q).log p) (top_sent (new p) q)
     reached (inl u) = UpTo-trans u ((fits p).grows q)
     reached (inr u) = elim (promoted-cases k (s.node p).tent (s.node p)) [
-      | inl f ↦ subst (λ a. UpTo (top_heard (s.node q).line p) (top_sent a q)) (sym f.1) u.1
+      | inl f ↦ subst (λ a. UpTo (top_heard (s.node q).log p) (top_sent a q)) (sym f.1) u.1
       | inr f ↦ absurd (f.0 u.0)
     ]
 
-    go : (((s.node q).tent ≡ Some k) × (new q ≡ (s.node q).line)) ⊎ (((s.node q).tent ≢ Some k) × (new q ≡ (s.node q).perm))
+    go : (((s.node q).tent ≡ Some k) × (new q ≡ (s.node q).log)) ⊎ (((s.node q).tent ≢ Some k) × (new q ≡ (s.node q).perm))
         → UpTo (top_heard (new q) p) (top_sent (new p) q)
     go (inl f) = subst (λ a. UpTo (top_heard a p) (top_sent (new p) q)) (sym f.1)
         (reached ((w.pair q p (near.both p q t)).cover k f.0 (all_yes q (s.node q).life ((w.local q).holding k f.0).1)))

@@ -1,8 +1,10 @@
 -- The theorem from the invariant.
+-- Cited by `laws::held_is_forced`, `laws::nothing_remembered_is_undone`, `laws::permanent_checkpoints_agree`,
+--   `laws::rolling_is_forced`; kt_refinement.
 use Rattle.std.proofs.Common.{◌≡◌, ◌≢◌, ◌⊎◌, ℕ, Bool, true, false, IsTrue, List, ◌∷◌, Some, inl, inr, sym, subst, ◌∙◌}
 use Rattle.std.proofs.lemmas.Bool.{cases_eq}
 use Rattle.kt_protocol.specs.Labels.{Label, Under, UpTo, at}
-use Rattle.kt_protocol.specs.Lines.{IsIn, here, Sends, Hears, top_sent, top_heard}
+use Rattle.kt_protocol.specs.Logs.{IsIn, here, Sends, Hears, top_sent, top_heard}
 use Rattle.kt_protocol.specs.Machine.{Instance, Check, Rollback, Open, Ballot, Mode, Up, Within, Down, Message, Ask, Node, State, instance_of}
 use Rattle.kt_protocol.specs.Steps.{Step, sends, hears, keeps, takes, drops, ignores, refuses, grants, joins, begins, restarts, counts, agrees, declines}
 use Rattle.kt_protocol.specs.Steps.{decides_rollback, decides_check, gives_up_rollback, gives_up_check, learns_yes, learns_no, releases, fails, fails_holding}
@@ -10,7 +12,7 @@ use Rattle.kt_protocol.specs.Steps.{MustJoin, change, pull, asking, consenting}
 use Rattle.kt_protocol.specs.Runs.{AreNeighbours}
 use Rattle.kt_protocol.specs.Laws.{IsHeld, IsRolling, IsStanding, IsSteady, MustRoll, MustHold, WhyHeld, began, forced}
 use Rattle.kt_protocol.proofs.Labels.{at-both, at-else, UpTo-trans, UpTo-Under, Under-UpTo, UpTo-eq, Under-not}
-use Rattle.kt_protocol.proofs.Lines.{Falls-tail, tail-in, sent-old, sent-top, heard-top, heard-attained}
+use Rattle.kt_protocol.proofs.Logs.{Falls-tail, tail-in, sent-old, sent-top, heard-top, heard-attained}
 use Rattle.kt_protocol.proofs.Invariant.{core, Gone, Caused, made, lost, cut_soon, Pair, Invariant}
 use Rattle.kt_protocol.proofs.Cases.{some-none, none-some, some-one, up-gone, up-voting, up-down, check-rollback, pull-here, push-else}
 use Rattle.kt_protocol.proofs.Cuts.{rolling-none}
@@ -19,12 +21,12 @@ use Rattle.kt_protocol.proofs.Starts.{begun-now}
 -- what a permanent checkpoint has heard, the sender's has sent
 pub agree : {peer : ℕ → ℕ → Bool} {s : State} → Invariant peer s → (p q by : ℕ) (l : Label) → IsIn (Hears by p l) (s.node q).perm
     → IsIn (Sends by q l) (s.node p).perm
-agree {peer} {s} w p q by l h = caused (pair.caused by l line) where
-  line : IsIn (Hears by p l) (s.node q).line
-  line = tail-in (w.local q).tail h
+agree {peer} {s} w p q by l h = caused (pair.caused by l log) where
+  log : IsIn (Hears by p l) (s.node q).log
+  log = tail-in (w.local q).tail h
 
   pair : Pair s.board p q (s.node p) (s.node q) ((s.node q).kept p) (s.link p q)
-  pair = w.pair p q ((w.local q).from by p l line)
+  pair = w.pair p q ((w.local q).from by p l log)
 
   low : UpTo l (top_heard (s.node q).perm p)
   low = heard-top (s.node q).perm (Falls-tail (w.local q).tail (w.local q).falls) h
@@ -46,11 +48,11 @@ standing-rolling (Within (Check j) b) k s e = check-rollback (some-one e)
 standing-rolling (Within (Rollback j) b) k s e = absurd s
 standing-rolling Down k s e = absurd s
 
--- in a steady state each act in a line that heard an act heard one that its node remembers
-pub remembered : {peer : ℕ → ℕ → Bool} {s : State} → Invariant peer s → IsSteady s → (p q by : ℕ) (l : Label) → IsIn (Hears by p l) (s.node q).line
-    → IsIn (Sends by q l) (s.node p).line
+-- in a steady state each act in a log that heard an act heard one that its node remembers
+pub remembered : {peer : ℕ → ℕ → Bool} {s : State} → Invariant peer s → IsSteady s → (p q by : ℕ) (l : Label) → IsIn (Hears by p l) (s.node q).log
+    → IsIn (Sends by q l) (s.node p).log
 remembered {peer} {s} w steady p q by l h = caused ((w.pair p q ((w.local q).from by p l h)).caused by l h) where
-  caused : Caused s.board p q (core (s.node p)) (s.node q).mode (s.node q).perm by l → IsIn (Sends by q l) (s.node p).line
+  caused : Caused s.board p q (core (s.node p)) (s.node q).mode (s.node q).perm by l → IsIn (Sends by q l) (s.node p).log
   caused (made i) = i
   caused (lost u) = standing-gone (s.node p).mode (steady p) u.gone
   caused (cut_soon c) = standing-rolling (s.node q).mode c.number (steady q) c.rolls
@@ -114,7 +116,7 @@ ways P nu nd peer near s o up t (fails_holding x k held) h = let g = changed P n
 must_roll : {peer : ℕ → ℕ → Bool} {s t : State} → Invariant peer s
     → (o x k : ℕ) (l : Label) (c : ℕ) (rest : List Message) → IsTrue (peer x o)
     → s.link x o ≡ Ask (Rollback k) l c ∷ rest → t.link x o ≡ rest → s.board.verdict (Rollback k) ≡ Open
-    → Under l (top_heard (s.node o).line x) → MustRoll s t o
+    → Under l (top_heard (s.node o).log x) → MustRoll s t o
 must_roll {peer} {s} {t} w o x k l c rest near front taken opened u =
     let h = heard-attained x (w.local o).tail above in
     record {
@@ -126,7 +128,7 @@ must_roll {peer} {s} {t} w o x k l c rest near front taken opened u =
       ask = front;
       taken = taken;
       by = h.0;
-      under = top_heard (s.node o).line x;
+      under = top_heard (s.node o).log x;
       heard = h.1;
       lacks = λ i. Under-not (UpTo-Under (UpTo-eq (sym label)) u) (sent-top (s.node x).perm (Falls-tail (w.local x).tail (w.local x).falls) i);
     } where
@@ -134,7 +136,7 @@ must_roll {peer} {s} {t} w o x k l c rest near front taken opened u =
       label = (((w.pair x o near).asks (Rollback k) l c (subst (λ m. IsIn (Ask (Rollback k) l c) m) (sym front) here)).meant opened).2
 
       -- the permanent checkpoint heard no more than the asker's has sent
-      above : Under (top_heard (s.node o).perm x) (top_heard (s.node o).line x)
+      above : Under (top_heard (s.node o).perm x) (top_heard (s.node o).log x)
       above = UpTo-Under (UpTo-trans (w.pair x o near).agree (UpTo-eq (sym label))) u
 
 pub forced_to_roll : {peer : ℕ → ℕ → Bool} → AreNeighbours peer → {s t : State} → Invariant peer s → Step peer s t → (o : ℕ)
@@ -163,18 +165,18 @@ must_hold {peer} near {s} {t} w o x k l c rest link up front taken opened u =
       ask = front;
       taken = taken;
       by = h.0;
-      under = top_heard (s.node x).line o;
+      under = top_heard (s.node x).log o;
       heard = h.1;
-      sent = caused ((w.pair o x (near.both x o link)).caused h.0 (top_heard (s.node x).line o) h.1);
+      sent = caused ((w.pair o x (near.both x o link)).caused h.0 (top_heard (s.node x).log o) h.1);
       lacks = λ i. Under-not above (sent-top (s.node o).perm (Falls-tail (w.local o).tail (w.local o).falls) i);
     } where
-      meant : ((s.node x).tent ≡ Some k) × (l ≡ top_heard (s.node x).line o)
+      meant : ((s.node x).tent ≡ Some k) × (l ≡ top_heard (s.node x).log o)
       meant = ((w.pair x o link).asks (Check k) l c (subst (λ m. IsIn (Ask (Check k) l c) m) (sym front) here)).meant opened
 
-      above : Under (top_sent (s.node o).perm x) (top_heard (s.node x).line o)
+      above : Under (top_sent (s.node o).perm x) (top_heard (s.node x).log o)
       above = Under-UpTo u (UpTo-eq meant.1)
 
-      caused : {y : ℕ} {m : Label} → Caused s.board o x (core (s.node o)) (s.node x).mode (s.node x).perm y m → IsIn (Sends y x m) (s.node o).line
+      caused : {y : ℕ} {m : Label} → Caused s.board o x (core (s.node o)) (s.node x).mode (s.node x).perm y m → IsIn (Sends y x m) (s.node o).log
       caused (made i) = i
       caused (lost g) = up-gone up g.gone
       caused (cut_soon g) = some-none (sym meant.0 ∙ rolling-none (s.node x).mode (s.node x).tent (w.local x).way g.rolls)

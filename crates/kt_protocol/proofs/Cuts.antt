@@ -1,13 +1,14 @@
--- Failures, and lines cut to the permanent checkpoint.
+-- Failures, and logs cut to the permanent checkpoint.
+-- Cited by Checks, Consequences, Main, Rises; kt_refinement.
 use Rattle.std.proofs.Common.{◌≡◌, ℕ, Bool, List, [], Option, Some, None, inl, inr, refl, sym, ap, ◌∙◌}
 use Rattle.kt_protocol.specs.Labels.{Label, Under}
-use Rattle.kt_protocol.specs.Lines.{IsTail, all, top_sent}
-use Rattle.kt_protocol.specs.Machine.{Instance, Check, Rollback, Ballot, Mode, Up, Within, Down, Post, Message, Node, Board, State}
+use Rattle.kt_protocol.specs.Logs.{IsTail, all, top_sent}
+use Rattle.kt_protocol.specs.Machine.{Instance, Check, Rollback, Ballot, Mode, Up, Within, Down, AppMessage, Message, Node, Board, State}
 use Rattle.kt_protocol.specs.Machine.{instance_of, next_label}
 use Rattle.kt_protocol.specs.Steps.{change, cutting, falling, nothing_kept}
 use Rattle.kt_protocol.specs.Runs.{AreNeighbours}
 use Rattle.kt_protocol.proofs.Labels.{UpTo-trans, UpTo-Under, Under-not, UpTo-refl}
-use Rattle.kt_protocol.proofs.Lines.{Falls, Falls-tail, sent-tail, heard-tail, heard-top, sent-split, tail-in}
+use Rattle.kt_protocol.proofs.Logs.{Falls, Falls-tail, sent-tail, heard-tail, heard-top, sent-split, tail-in}
 use Rattle.kt_protocol.proofs.Streams.{apps, Rising-map, Rising-low, Rising-sub, Sub-right}
 use Rattle.kt_protocol.proofs.Invariant.{core, Undone, sent, undone, made, lost, cut_soon, Calm, Cover, asked}
 use Rattle.kt_protocol.proofs.Invariant.{waiting, voted, Meant, top_of, TokenOf, Pair, Way, Engaged, Local, Invariant}
@@ -20,10 +21,10 @@ rolling-none (Within (Check j) b) tent w e = check-rollback (some-one e)
 rolling-none (Within (Rollback j) b) tent w e = w
 rolling-none Down tent w e = none-some e
 
--- the line is cut, the node is in no instance and keeps nothing
-pub cut-into : {B : Board} {p q : ℕ} {np nq : Node} {kept : List Post} {link : List Message} (m : Mode) (life count : ℕ)
-    → instance_of m ≡ None → nq.tent ≡ None → Falls nq.line → IsTail nq.perm nq.line
-    → Pair B p q np nq kept link → Pair B p q np record nq { mode = m; life = life; count = count; line = nq.perm; kept = nothing_kept } [] link
+-- the log is cut, the node is in no instance and keeps nothing
+pub cut-into : {B : Board} {p q : ℕ} {np nq : Node} {kept : List AppMessage} {link : List Message} (m : Mode) (life count : ℕ)
+    → instance_of m ≡ None → nq.tent ≡ None → Falls nq.log → IsTail nq.perm nq.log
+    → Pair B p q np nq kept link → Pair B p q np record nq { mode = m; life = life; count = count; log = nq.perm; kept = nothing_kept } [] link
 cut-into {B} {p} {q} {np} {nq} {kept} {link} m life count idle none falls tail o = record {
   agree = o.agree;
   caused = λ b l h. elim (o.caused b l (tail-in tail h)) [
@@ -38,9 +39,9 @@ cut-into {B} {p} {q} {np} {nq} {kept} {link} m life count idle none falls tail o
   cover = λ k e s. cover (Check k) (o.cover k e s);
 } where
   new : Node
-  new = record nq { mode = m; life = life; count = count; line = nq.perm; kept = nothing_kept }
+  new = record nq { mode = m; life = life; count = count; log = nq.perm; kept = nothing_kept }
 
-  cover : (i : Instance) → Cover i (core nq) p (top_of i np.line np.perm q) → Cover i (core new) p (top_of i np.line np.perm q)
+  cover : (i : Instance) → Cover i (core nq) p (top_of i np.log np.perm q) → Cover i (core new) p (top_of i np.log np.perm q)
   cover (Check k) (inl u) = inl u
   cover (Check k) (inr u) = some-none (sym u.0 ∙ none)
   cover (Rollback k) (inl u) = inr o.agree
@@ -56,7 +57,7 @@ cut-into {B} {p} {q} {np} {nq} {kept} {link} m life count idle none falls tail o
   token i b (voted y c n f r v) = voted y (calm i c) n (λ e. (cover i (f e).0, (f e).1)) r (λ c e f. none-some (sym idle ∙ ap instance_of e))
 
 -- the sender is down: what its permanent checkpoint did not send is undone
-cut-out : {B : Board} {p q : ℕ} {np nq : Node} {kept : List Post} {link : List Message} → np.tent ≡ None → Falls np.line → IsTail np.perm np.line
+cut-out : {B : Board} {p q : ℕ} {np nq : Node} {kept : List AppMessage} {link : List Message} → np.tent ≡ None → Falls np.log → IsTail np.perm np.log
     → Pair B p q np nq kept link → Pair B p q (falling (cutting np)) nq kept link
 cut-out {B} {p} {q} {np} {nq} {kept} {link} none falls tail o = record {
   agree = o.agree;
@@ -117,7 +118,7 @@ step_fails peer near s o none w =
     }
 
 -- a node fails with its tentative checkpoint
-hold-out : {B : Board} {p q : ℕ} {np nq : Node} {kept : List Post} {link : List Message} (k : ℕ) → np.tent ≡ Some k
+hold-out : {B : Board} {p q : ℕ} {np nq : Node} {kept : List AppMessage} {link : List Message} (k : ℕ) → np.tent ≡ Some k
     → Pair B p q np nq kept link → Pair B p q (falling np) nq kept link
 hold-out {B} {p} {q} {np} {nq} {kept} {link} k held o = record {
   agree = o.agree;
@@ -135,7 +136,7 @@ hold-out {B} {p} {q} {np} {nq} {kept} {link} k held o = record {
   meant (Check k) l m = m
   meant (Rollback j) l m = some-none (sym held ∙ m.1)
 
-hold-into : {B : Board} {p q : ℕ} {np nq : Node} {kept : List Post} {link : List Message} (k : ℕ) → nq.tent ≡ Some k → Way nq.mode nq.tent
+hold-into : {B : Board} {p q : ℕ} {np nq : Node} {kept : List AppMessage} {link : List Message} (k : ℕ) → nq.tent ≡ Some k → Way nq.mode nq.tent
     → Pair B p q np nq kept link → Pair B p q np (falling nq) [] link
 hold-into {B} {p} {q} {np} {nq} {kept} {link} k held way o = record {
   agree = o.agree;
@@ -158,7 +159,7 @@ hold-into {B} {p} {q} {np} {nq} {kept} {link} k held way o = record {
   token : (i : Instance) (b : Ballot) → TokenOf B p q np nq kept link i b → TokenOf B p q np (falling nq) [] link i b
   token i b (asked w a n c) = asked w a n c
   token i b (waiting w c n k) = waiting w (calm i c) n k
-  token i b (voted y c n f r v) = voted y (calm i c) n (λ e. (cover i (top_of i np.line np.perm q) (f e).0, (f e).1)) r (λ c e f. down-voting refl e)
+  token i b (voted y c n f r v) = voted y (calm i c) n (λ e. (cover i (top_of i np.log np.perm q) (f e).0, (f e).1)) r (λ c e f. down-voting refl e)
 
 pub step_fails_holding : (peer : ℕ → ℕ → Bool) → AreNeighbours peer → (s : State) (o k : ℕ) → (s.node o).tent ≡ Some k → Invariant peer s
     → Invariant peer (change o falling s)

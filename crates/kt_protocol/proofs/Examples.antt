@@ -1,14 +1,15 @@
--- Two runs, step by step: a rollback that gets Yes and cuts a line, and a check that gets Yes while one of its two nodes
+-- Two runs, step by step: a rollback that gets Yes and cuts a log, and a check that gets Yes while one of its two nodes
 -- is down.
+-- Cited by `laws::a_check_can_succeed_while_a_node_is_down`, `laws::a_rollback_can_cut_a_log`.
 use Rattle.std.proofs.Common.{◌≡◌, ◌≢◌, ℕ, zero, suc, Bool, true, false, IsTrue, [], Some, None, inl, refl, arith}
 use Rattle.kt_protocol.specs.Labels.{no_label, at}
-use Rattle.kt_protocol.specs.Lines.{here, Hears, top_sent, top_heard}
-use Rattle.kt_protocol.specs.Machine.{Check, Rollback, Open, Yes, Ballot, Up, App, Post, Node, State}
+use Rattle.kt_protocol.specs.Logs.{here, Hears, top_sent, top_heard}
+use Rattle.kt_protocol.specs.Machine.{Check, Rollback, Open, Yes, Ballot, Up, App, AppMessage, Node, State}
 use Rattle.kt_protocol.specs.Steps.{sends, hears, joins, begins, restarts, grants, counts, agrees, decides_rollback, decides_check, learns_yes, fails}
 use Rattle.kt_protocol.specs.Steps.{fails_holding, change, pull, push, begin, decide, promote, sending, hearing, joining, loading, sifting, sieve, asking, only}
 use Rattle.kt_protocol.specs.Steps.{answering, consenting, counting, rising, falling, cutting, counted, IsAgreed, IsCohort, MustAsk}
 use Rattle.kt_protocol.specs.Runs.{AreNeighbours, new, IsBeginning, Run, nothing_done, one_more}
-use Rattle.kt_protocol.specs.Laws.{CutsALine, ChecksWhileDown}
+use Rattle.kt_protocol.specs.Laws.{CutsALog, ChecksWhileDown}
 use Rattle.kt_protocol.proofs.Labels.{UpTo-refl}
 use Rattle.kt_protocol.proofs.Cases.{true-false}
 
@@ -19,7 +20,7 @@ pair (suc zero) zero = true
 pair p q = false
 
 abbrev new_node : Node
-new_node = record { mode = Up; life = 1; count = 0; line = []; perm = []; tent = None; kept = λ x. []; votes = []; joined = []; said = [] }
+new_node = record { mode = Up; life = 1; count = 0; log = []; perm = []; tent = None; kept = λ x. []; votes = []; joined = []; said = [] }
 
 abbrev start : State
 start = record { node = λ x. new_node; link = λ p q. []; board = record { verdict = λ i. Open; begun = λ i. false } }
@@ -28,13 +29,13 @@ start_is : IsBeginning pair start
 unfolding top_sent top_heard
 start_is = record {
   first = 0;
-  nodes = λ p. new (record { mode = refl; line = refl; perm = refl; tent = refl; kept = λ x. refl; votes = refl; joined = refl; said = refl });
+  nodes = λ p. new (record { mode = refl; log = refl; perm = refl; tent = refl; kept = λ x. refl; votes = refl; joined = refl; said = refl });
   empty = λ p q. refl;
   fresh = λ i e. refl;
   agree = λ p q near. UpTo-refl _;
 }
 
-abbrev first : Post
+abbrev first : AppMessage
 first = record { by = 7; label = record { life = 1; count = 1 } }
 
 -- 0 sends, and 1 hears
@@ -150,7 +151,7 @@ run_decided = one_more run_counted_0 (decides_rollback 0 0 (counted 1 true ballo
 run_learnt : Run pair heard_one learnt
 run_learnt = one_more run_decided (learns_yes 1 0 record (counted 0 true ballot_1) { voted = true } refl refl)
 
-pub cuts : CutsALine pair
+pub cuts : CutsALog pair
 cuts = record {
   before = heard_one;
   after = learnt;

@@ -1,8 +1,9 @@
 -- What a step leaves as it was, once for all steps.
+-- Cited by Cases, Casts, Checks, Main, Rises, Starts, Talks, Verdicts; kt_refinement.
 use Rattle.std.proofs.Common.{◌≡◌, ◌≢◌, ℕ, Bool, true, false, IsTrue, List, Option, refl, sym, ap, subst, ◌∙◌}
 use Rattle.kt_protocol.specs.Labels.{Label, at}
-use Rattle.kt_protocol.specs.Lines.{Act}
-use Rattle.kt_protocol.specs.Machine.{Instance, Check, Rollback, Open, Yes, No, Key, Ballot, Mode, Post, Message, Vote, Member, Mark, Node, Board, State}
+use Rattle.kt_protocol.specs.Logs.{Act}
+use Rattle.kt_protocol.specs.Machine.{Instance, Check, Rollback, Open, Yes, No, Key, Ballot, Mode, AppMessage, Message, Vote, Member, Mark, Node, Board, State}
 use Rattle.kt_protocol.specs.Runs.{AreNeighbours}
 use Rattle.kt_protocol.proofs.Labels.{at-both, at-here, at-else}
 use Rattle.kt_protocol.proofs.Streams.{Asked-map}
@@ -33,7 +34,7 @@ pub Behind-later : {B C : Board} (i : Instance) (link : List Message) → Later 
 Behind-later (Check k) link l b = b
 Behind-later (Rollback k) link l b = Quiet-later l b
 
-pub Calm-later : {B C : Board} (i : Instance) {c : ℕ} {top : Label} {kept : List Post} {link : List Message} → Later B C
+pub Calm-later : {B C : Board} (i : Instance) {c : ℕ} {top : Label} {kept : List AppMessage} {link : List Message} → Later B C
     → Calm B i c top kept link → Calm C i c top kept link
 Calm-later i {link = link} l c = record { none = c.none; behind = Behind-later i link l c.behind; low = c.low }
 
@@ -59,12 +60,12 @@ FineAsk-later {i = i} later f = record {
   meant = λ e. f.meant (later.opened i e);
 }
 
-pub TokenOf-later : {B C : Board} (p q : ℕ) (np nq : Node) (kept : List Post) (link : List Message) (i : Instance) (b : Ballot)
+pub TokenOf-later : {B C : Board} (p q : ℕ) (np nq : Node) (kept : List AppMessage) (link : List Message) (i : Instance) (b : Ballot)
     → Later B C → TokenOf B p q np nq kept link i b → TokenOf C p q np nq kept link i b
 TokenOf-later p q np nq kept link i b later t =
     Token-map (λ a. Asked-map (λ rest. Behind-later i rest later) a) (Calm-later i later) (λ v. v) t
 
-pub Pair-later : {B C : Board} {p q : ℕ} {np nq : Node} {kept : List Post} {link : List Message} → Later B C
+pub Pair-later : {B C : Board} {p q : ℕ} {np nq : Node} {kept : List AppMessage} {link : List Message} → Later B C
     → Pair B p q np nq kept link → Pair C p q np nq kept link
 Pair-later {p = p} {q} {np} {nq} {kept} {link} later o = record {
   agree = o.agree;

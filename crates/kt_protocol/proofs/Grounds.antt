@@ -1,15 +1,16 @@
--- What a node has of the acts before it was resumed stands at the ground of its line and of its permanent checkpoint, and
+-- What a node has of the acts before it was resumed stands at the ground of its log and of its permanent checkpoint, and
 -- of no other's.
+-- Cited by kt_refinement.
 use Rattle.std.proofs.Common.{◌≡◌, ◌≢◌, ◌⊎◌, ℕ, Bool, List, [], ◌∷◌, Option, Some, None, inl, inr, sym, ap, subst, if◌then◌else◌, eqb}
 use Rattle.kt_protocol.specs.Labels.{Label, at}
-use Rattle.kt_protocol.specs.Lines.{IsIn, here, there, Act, Sends, Hears, Resumes, IsTalk}
-use Rattle.kt_protocol.specs.Machine.{Instance, Check, Post, Node, State}
+use Rattle.kt_protocol.specs.Logs.{IsIn, here, there, Act, Sends, Hears, Resumes, IsTalk}
+use Rattle.kt_protocol.specs.Machine.{Instance, Check, AppMessage, Node, State}
 use Rattle.kt_protocol.specs.Steps.{Step, sends, hears, keeps, takes, drops, ignores, refuses, grants, joins, begins, restarts, counts, agrees, declines}
 use Rattle.kt_protocol.specs.Steps.{decides_rollback, decides_check, gives_up_rollback, gives_up_check, learns_yes, learns_no, releases, fails, fails_holding}
 use Rattle.kt_protocol.specs.Steps.{promoted, consenting, change}
 use Rattle.kt_protocol.specs.Runs.{AreNeighbours, IsBeginning, IsNew, IsResumed, IsFirst, new, resumed, Run, nothing_done, one_more}
 use Rattle.kt_protocol.proofs.Labels.{at-both}
-use Rattle.kt_protocol.proofs.Lines.{tail-in}
+use Rattle.kt_protocol.proofs.Logs.{tail-in}
 use Rattle.kt_protocol.proofs.Streams.{in-cons}
 use Rattle.kt_protocol.proofs.Invariant.{Invariant}
 use Rattle.kt_protocol.proofs.Main.{stays_through}
@@ -25,7 +26,7 @@ pub record HasGround (first o : ℕ) (acts : List Act) : Type 0 where
   pub among : IsIn (Resumes o first sent heard) acts
 
 pub record IsGrounded (first o : ℕ) (n : Node) : Type 0 where
-  pub line : OnGround first o n.line
+  pub log : OnGround first o n.log
   pub perm : OnGround first o n.perm
 
 on-talk : {first o : ℕ} {a : Act} {acts : List Act} → IsTalk a → OnGround first o acts → OnGround first o (a ∷ acts)
@@ -41,50 +42,51 @@ at-grounded {first} o next f is all x = at-both o next f x (λ n. IsGrounded fir
 promoted-on : {first o : ℕ} (k : ℕ) (tent : Option ℕ) (n : Node) → IsGrounded first o n → OnGround first o (promoted k tent n)
 promoted-on k None n is = is.perm
 promoted-on {first} {o} k (Some j) n is = by (eqb j k) where
-  by : (b : Bool) → OnGround first o (if b then n.line else n.perm)
-  by Rattle.std.proofs.Common.true = is.line
+  by : (b : Bool) → OnGround first o (if b then n.log else n.perm)
+  by Rattle.std.proofs.Common.true = is.log
   by Rattle.std.proofs.Common.false = is.perm
 
 -- each step
 step-grounded : {peer : ℕ → ℕ → Bool} {first : ℕ} (s t : State) → ((x : ℕ) → IsGrounded first x (s.node x)) → Step peer s t
     → (x : ℕ) → IsGrounded first x (t.node x)
-step-grounded s t all (sends o y by u up) = at-grounded o _ s.node (record { line = on-talk tt (all o).line; perm = (all o).perm }) all
-step-grounded s t all (hears o x m rest u up bare front) = at-grounded o _ s.node (record { line = on-talk tt (all o).line; perm = (all o).perm }) all
-step-grounded s t all (keeps o x m rest u front) = at-grounded o _ s.node (record { line = (all o).line; perm = (all o).perm }) all
-step-grounded s t all (takes o x m ks u up front) = at-grounded o _ s.node (record { line = on-talk tt (all o).line; perm = (all o).perm }) all
+step-grounded s t all (sends o y by u up) = at-grounded o _ s.node (record { log = on-talk tt (all o).log; perm = (all o).perm }) all
+step-grounded s t all (hears o x m rest u up bare front) = at-grounded o _ s.node (record { log = on-talk tt (all o).log; perm = (all o).perm }) all
+step-grounded s t all (keeps o x m rest u front) = at-grounded o _ s.node (record { log = (all o).log; perm = (all o).perm }) all
+step-grounded s t all (takes o x m ks u up front) = at-grounded o _ s.node (record { log = on-talk tt (all o).log; perm = (all o).perm }) all
 step-grounded s t all (drops o x m rest u front) = all
-step-grounded s t all (ignores o x i l c rest u front) = at-grounded o _ s.node (record { line = (all o).line; perm = (all o).perm }) all
-step-grounded s t all (refuses o x i l c rest u front) = at-grounded o _ s.node (record { line = (all o).line; perm = (all o).perm }) all
-step-grounded s t all (grants o x i l c rest u front opened may) = at-grounded o _ s.node (record { line = (all o).line; perm = (all o).perm }) all
+step-grounded s t all (ignores o x i l c rest u front) = at-grounded o _ s.node (record { log = (all o).log; perm = (all o).perm }) all
+step-grounded s t all (refuses o x i l c rest u front) = at-grounded o _ s.node (record { log = (all o).log; perm = (all o).perm }) all
+step-grounded s t all (grants o x i l c rest u front opened may) = at-grounded o _ s.node (record { log = (all o).log; perm = (all o).perm }) all
 step-grounded s t all (joins o x i l c rest cohort u front up opened must asked) =
-    at-grounded o _ s.node (record { line = (all o).line; perm = (all o).perm }) all
-step-grounded s t all (begins o k cohort up unbegun asked) = at-grounded o _ s.node (record { line = (all o).line; perm = (all o).perm }) all
+    at-grounded o _ s.node (record { log = (all o).log; perm = (all o).perm }) all
+step-grounded s t all (begins o k cohort up unbegun asked) = at-grounded o _ s.node (record { log = (all o).log; perm = (all o).perm }) all
 step-grounded s t all (restarts o k cohort down none cut unbegun asked) =
-    at-grounded o _ s.node (record { line = (all o).perm; perm = (all o).perm }) all
-step-grounded s t all (counts o q i b y u e a v) = at-grounded o _ s.node (record { line = (all o).line; perm = (all o).perm }) all
-step-grounded s t all (agrees o i b k e par unvoted agreed) = at-grounded o _ s.node (record { line = (all o).line; perm = (all o).perm }) all
-step-grounded s t all (declines o i b k e par unvoted) = at-grounded o _ s.node (record { line = (all o).line; perm = (all o).perm }) all
+    at-grounded o _ s.node (record { log = (all o).perm; perm = (all o).perm }) all
+step-grounded s t all (counts o q i b y u e a v) = at-grounded o _ s.node (record { log = (all o).log; perm = (all o).perm }) all
+step-grounded s t all (agrees o i b k e par unvoted agreed) = at-grounded o _ s.node (record { log = (all o).log; perm = (all o).perm }) all
+step-grounded s t all (declines o i b k e par unvoted) = at-grounded o _ s.node (record { log = (all o).log; perm = (all o).perm }) all
 step-grounded {first = first} s t all (decides_rollback o k b e par opened agreed) =
-    let mid = at-grounded o (consenting (Rattle.kt_protocol.specs.Machine.Rollback k) b (s.node o)) s.node (record { line = (all o).line; perm = (all o).perm }) all in
-    at-grounded o _ (change o (consenting (Rattle.kt_protocol.specs.Machine.Rollback k) b) s).node (record { line = (mid o).line; perm = (mid o).perm }) mid
+    let mid = at-grounded o (consenting (Rattle.kt_protocol.specs.Machine.Rollback k) b (s.node o)) s.node (record { log = (all o).log; perm = (all o).perm })
+    all in
+    at-grounded o _ (change o (consenting (Rattle.kt_protocol.specs.Machine.Rollback k) b) s).node (record { log = (mid o).log; perm = (mid o).perm }) mid
 step-grounded {first = first} s t all (decides_check o k b e par opened agreed) = λ x.
-    let mid = at-grounded o (consenting (Check k) b (s.node o)) s.node (record { line = (all o).line; perm = (all o).perm }) all in
-    record { line = (mid x).line; perm = promoted-on k _ (at o (consenting (Check k) b (s.node o)) s.node x) (mid x) }
+    let mid = at-grounded o (consenting (Check k) b (s.node o)) s.node (record { log = (all o).log; perm = (all o).perm }) all in
+    record { log = (mid x).log; perm = promoted-on k _ (at o (consenting (Check k) b (s.node o)) s.node x) (mid x) }
 step-grounded s t all (gives_up_rollback k begun opened) = all
-step-grounded s t all (gives_up_check k begun opened) = λ x. record { line = (all x).line; perm = (all x).perm }
-step-grounded s t all (learns_yes o k b e decided) = at-grounded o _ s.node (record { line = (all o).perm; perm = (all o).perm }) all
-step-grounded s t all (learns_no o k b p e par decided) = at-grounded o _ s.node (record { line = (all o).line; perm = (all o).perm }) all
-step-grounded s t all (releases o k b e none) = at-grounded o _ s.node (record { line = (all o).line; perm = (all o).perm }) all
-step-grounded s t all (fails o none) = at-grounded o _ s.node (record { line = (all o).perm; perm = (all o).perm }) all
-step-grounded s t all (fails_holding o k held) = at-grounded o _ s.node (record { line = (all o).line; perm = (all o).perm }) all
+step-grounded s t all (gives_up_check k begun opened) = λ x. record { log = (all x).log; perm = (all x).perm }
+step-grounded s t all (learns_yes o k b e decided) = at-grounded o _ s.node (record { log = (all o).perm; perm = (all o).perm }) all
+step-grounded s t all (learns_no o k b p e par decided) = at-grounded o _ s.node (record { log = (all o).log; perm = (all o).perm }) all
+step-grounded s t all (releases o k b e none) = at-grounded o _ s.node (record { log = (all o).log; perm = (all o).perm }) all
+step-grounded s t all (fails o none) = at-grounded o _ s.node (record { log = (all o).perm; perm = (all o).perm }) all
+step-grounded s t all (fails_holding o k held) = at-grounded o _ s.node (record { log = (all o).log; perm = (all o).perm }) all
 
 first-grounded : (first o : ℕ) (n : Node) → IsFirst first o n → IsGrounded first o n
-first-grounded first o n (new w) = record { line = none n.line w.line; perm = none n.perm w.perm } where
+first-grounded first o n (new w) = record { log = none n.log w.log; perm = none n.perm w.perm } where
   none : (acts : List Act) → acts ≡ [] → OnGround first o acts
   none acts e x g sent heard i = absurd (empty (subst (λ l. IsIn (Resumes x g sent heard) l) e i)) where
     empty : IsIn (Resumes x g sent heard) [] → ⊥
     empty i = elim i [ ]
-first-grounded first o n (resumed w) = record { line = one n.line w.line; perm = one n.perm w.perm } where
+first-grounded first o n (resumed w) = record { log = one n.log w.log; perm = one n.perm w.perm } where
   one : (acts : List Act) → acts ≡ Resumes o first w.sent w.heard ∷ [] → OnGround first o acts
   one acts e x g sent heard i = only (in-cons (subst (λ l. IsIn (Resumes x g sent heard) l) e i)) where
     node_of : Act → ℕ
@@ -110,11 +112,11 @@ run-grounded {s = s} w r = grounded-through (λ x. first-grounded w.first x (s.n
 -- ---- a permanent checkpoint keeps its ground
 
 promoted-has : {first : ℕ} (x k : ℕ) (tent : Option ℕ) (n : Node)
-    → ((a : Act) → IsIn a n.perm → IsIn a n.line) → HasGround first x n.perm → HasGround first x (promoted k tent n)
-promoted-has x k None n in_line has = has
-promoted-has {first = first} x k (Some j) n in_line has = by (eqb j k) where
-  by : (b : Bool) → HasGround first x (if b then n.line else n.perm)
-  by Rattle.std.proofs.Common.true = record { sent = has.sent; heard = has.heard; among = in_line _ has.among }
+    → ((a : Act) → IsIn a n.perm → IsIn a n.log) → HasGround first x n.perm → HasGround first x (promoted k tent n)
+promoted-has x k None n in_log has = has
+promoted-has {first = first} x k (Some j) n in_log has = by (eqb j k) where
+  by : (b : Bool) → HasGround first x (if b then n.log else n.perm)
+  by Rattle.std.proofs.Common.true = record { sent = has.sent; heard = has.heard; among = in_log _ has.among }
   by Rattle.std.proofs.Common.false = has
 
 at-has : {first y : ℕ} (o : ℕ) (next : Node) (f : ℕ → Node) → (HasGround first o (f o).perm → HasGround first o next.perm)
@@ -143,7 +145,7 @@ step-has s t w (decides_rollback o k b e par opened agreed) z has =
 step-has s t w (decides_check o k b e par opened agreed) z has =
     let f = at o (consenting (Check k) b (s.node o)) s.node in
     promoted-has z k _ (f z)
-    (at-both o (consenting (Check k) b (s.node o)) s.node z (λ (n : Node). (a : Act) → IsIn a n.perm → IsIn a n.line)
+    (at-both o (consenting (Check k) b (s.node o)) s.node z (λ (n : Node). (a : Act) → IsIn a n.perm → IsIn a n.log)
     (λ e a i. tail-in (w.local o).tail i) (λ ne a i. tail-in (w.local z).tail i))
     (at-has o _ s.node (λ h. h) has)
 step-has s t w (gives_up_rollback k begun opened) z has = has

@@ -1,23 +1,26 @@
 -- What holds in every state that the machine reaches: of one node, of an ordered pair of neighbours, of the trees
 -- of those who joined an instance.
+-- Cited by Answers, Cases, Casts, Checks, Consequences, Cuts, Frames, Grounds, Joins, Keeps, Main, Rises, Starts,
+--   Talks, Trees, Verdicts, Votes; kt_refinement.
 use Rattle.std.proofs.Common.{◌≡◌, ◌≢◌, ◌⊎◌, ◌≤◌, ℕ, Bool, true, false, IsTrue, List, [], ◌++◌, Option, Some, None}
 use Rattle.kt_protocol.specs.Labels.{Label, Under, UpTo}
-use Rattle.kt_protocol.specs.Lines.{IsIn, Act, Sends, Hears, top_sent, top_heard, IsTail}
-use Rattle.kt_protocol.specs.Machine.{Instance, Check, Rollback, Open, Yes, No, Key, Ballot, Mode, Up, Within, Down, Post, Message, Ask, Vote, Member, Mark}
+use Rattle.kt_protocol.specs.Logs.{IsIn, Act, Sends, Hears, top_sent, top_heard, IsTail}
+use Rattle.kt_protocol.specs.Machine.{Instance, Check, Rollback, Open, Yes, No, Key, Ballot, Mode, Up, Within, Down, AppMessage, Message, Ask, Vote, Member}
+use Rattle.kt_protocol.specs.Machine.{Mark}
 use Rattle.kt_protocol.specs.Machine.{Node, Board, State, instance_of, next_label}
 use Rattle.kt_protocol.specs.Steps.{IsAgreed}
-use Rattle.kt_protocol.proofs.Lines.{Falls}
+use Rattle.kt_protocol.proofs.Logs.{Falls}
 use Rattle.kt_protocol.proofs.Streams.{apps, Rising, NoAsk, Asked}
 
 -- what most facts about a node read of it
 pub record Core : Type 0 where
   pub mode : Mode
-  pub line : List Act
+  pub log : List Act
   pub perm : List Act
   pub tent : Option ℕ
 
 abbrev pub core : Node → Core
-core n = record { mode = n.mode; line = n.line; perm = n.perm; tent = n.tent }
+core n = record { mode = n.mode; log = n.log; perm = n.perm; tent = n.tent }
 
 abbrev pub a_vote : Instance → Key → Bool → Vote
 a_vote i k y = record { instance = i; asker = k; agrees = y }
@@ -46,11 +49,11 @@ Gone Down = Unit {0}
 pub record Undone (c : Core) (q : ℕ) (l : Label) : Type 0 where
   pub gone : Gone c.mode
   pub above : Under (top_sent c.perm q) l
-  pub held : (k : ℕ) → c.tent ≡ Some k → Under (top_sent c.line q) l
+  pub held : (k : ℕ) → c.tent ≡ Some k → Under (top_sent c.log q) l
 
--- a message to q under way or kept: the act that sent it stands in the line, or it is undone
-pub data Carried (c : Core) (q : ℕ) (m : Post) : Type 0 where
-  sent : IsIn (Sends m.by q m.label) c.line → Carried c q m
+-- a message to q under way or kept: the act that sent it stands in the log, or it is undone
+pub data Carried (c : Core) (q : ℕ) (m : AppMessage) : Type 0 where
+  sent : IsIn (Sends m.by q m.label) c.log → Carried c q m
   undone : Undone c q m.label → Carried c q m
 
 -- what was heard from p under this label is about to be cut: the node rolls in an instance that has Yes
@@ -60,9 +63,9 @@ pub record CutSoon (B : Board) (mode : Mode) (perm : List Act) (p : ℕ) (l : La
   pub decided : B.verdict (Rollback number) ≡ Yes
   pub above : Under (top_heard perm p) l
 
--- an act in q's line heard the act `by` of p
+-- an act in q's log heard the act `by` of p
 pub data Caused (B : Board) (p q : ℕ) (cp : Core) (mode : Mode) (perm : List Act) (by : ℕ) (l : Label) : Type 0 where
-  made : IsIn (Sends by q l) cp.line → Caused B p q cp mode perm by l
+  made : IsIn (Sends by q l) cp.log → Caused B p q cp mode perm by l
   lost : Undone cp q l → Caused B p q cp mode perm by l
   cut_soon : CutSoon B mode perm p l → Caused B p q cp mode perm by l
 
@@ -75,12 +78,12 @@ abbrev pub Behind : Board → Instance → List Message → Type 0
 Behind B (Check k) rest = Unit {0}
 Behind B (Rollback k) rest = Quiet B rest
 
-abbrev pub KeptUpTo : Instance → Label → List Post → Type 0
+abbrev pub KeptUpTo : Instance → Label → List AppMessage → Type 0
 KeptUpTo (Check k) top kept = Unit {0}
-KeptUpTo (Rollback k) top kept = (m : Post) → IsIn m kept → UpTo m.label top
+KeptUpTo (Rollback k) top kept = (m : AppMessage) → IsIn m kept → UpTo m.label top
 
 -- the ask of this key has passed; one of a rollback flushed the link
-pub record Calm (B : Board) (i : Instance) (c : ℕ) (top : Label) (kept : List Post) (link : List Message) : Type 0 where
+pub record Calm (B : Board) (i : Instance) (c : ℕ) (top : Label) (kept : List AppMessage) (link : List Message) : Type 0 where
   pub none : NoAsk i c link
   pub behind : Behind B i link
   pub low : KeptUpTo i top kept
@@ -88,8 +91,8 @@ pub record Calm (B : Board) (i : Instance) (c : ℕ) (top : Label) (kept : List 
 -- the asker p need not fear the node: its permanent checkpoint has sent what p heard, or its tentative one in this very
 -- check has; or it rolls in this very rollback, or heard nothing above p's label
 abbrev pub Cover : Instance → Core → ℕ → Label → Type 0
-Cover (Check k) c p top = UpTo top (top_sent c.perm p) ⊎ (c.tent ≡ Some k × UpTo top (top_sent c.line p))
-Cover (Rollback k) c p top = (instance_of c.mode ≡ Some (Rollback k)) ⊎ UpTo (top_heard c.line p) top
+Cover (Check k) c p top = UpTo top (top_sent c.perm p) ⊎ (c.tent ≡ Some k × UpTo top (top_sent c.log p))
+Cover (Rollback k) c p top = (instance_of c.mode ≡ Some (Rollback k)) ⊎ UpTo (top_heard c.log p) top
 
 abbrev pub NoVote : List Vote → Instance → Key → Type 0
 NoVote votes i k = (y : Bool) → IsIn (a_vote i k y) votes → ⊥
@@ -132,7 +135,7 @@ Away (Within (Rollback m) b) k = (b.parent ≡ None) ⊎ (m ≡ k)
 Away Down k = Unit {0}
 
 abbrev pub Meant : Instance → Core → ℕ → Label → Type 0
-Meant (Check k) c q l = (c.tent ≡ Some k) × (l ≡ top_heard c.line q)
+Meant (Check k) c q l = (c.tent ≡ Some k) × (l ≡ top_heard c.log q)
 Meant (Rollback k) c q l = Away c.mode k × (c.tent ≡ None) × (l ≡ top_sent c.perm q)
 
 -- an ask under way to q
@@ -143,27 +146,27 @@ pub record FineAsk (B : Board) (joined : List Member) (said : List Mark) (cp : C
 
 -- the label with which an ask is made
 abbrev pub top_of : Instance → List Act → List Act → ℕ → Label
-top_of (Check k) line perm q = top_heard line q
-top_of (Rollback k) line perm q = top_sent perm q
+top_of (Check k) log perm q = top_heard log q
+top_of (Rollback k) log perm q = top_sent perm q
 
 -- the token of p's ballot towards q
-abbrev pub TokenOf : Board → ℕ → ℕ → Node → Node → List Post → List Message → Instance → Ballot → Type 0
+abbrev pub TokenOf : Board → ℕ → ℕ → Node → Node → List AppMessage → List Message → Instance → Ballot → Type 0
 TokenOf B p q np nq kept link i b = Token i (a_key p np.life) (b.awaited q) b.refused
-    (Asked i np.life (top_of i np.line np.perm q) (Behind B i) link) (Calm B i np.life (top_of i np.line np.perm q) kept link)
-    (Cover i (core nq) p (top_of i np.line np.perm q)) nq.mode nq.votes nq.joined nq.said
+    (Asked i np.life (top_of i np.log np.perm q) (Behind B i) link) (Calm B i np.life (top_of i np.log np.perm q) kept link)
+    (Cover i (core nq) p (top_of i np.log np.perm q)) nq.mode nq.votes nq.joined nq.said
 
 -- p sends to q: what q keeps from p and what stands on the link from p to q
-pub record Pair (B : Board) (p q : ℕ) (np nq : Node) (kept : List Post) (link : List Message) : Type 0 where
+pub record Pair (B : Board) (p q : ℕ) (np nq : Node) (kept : List AppMessage) (link : List Message) : Type 0 where
   -- what q's permanent checkpoint heard, p's has sent
   pub agree : UpTo (top_heard nq.perm p) (top_sent np.perm q)
-  pub caused : (by : ℕ) (l : Label) → IsIn (Hears by p l) nq.line → Caused B p q (core np) nq.mode nq.perm by l
-  pub chain : Rising (Carried (core np) q) (next_label np) (top_heard nq.line p) (kept ++ apps link)
+  pub caused : (by : ℕ) (l : Label) → IsIn (Hears by p l) nq.log → Caused B p q (core np) nq.mode nq.perm by l
+  pub chain : Rising (Carried (core np) q) (next_label np) (top_heard nq.log p) (kept ++ apps link)
   pub asks : (i : Instance) (l : Label) (c : ℕ) → IsIn (Ask i l c) link → FineAsk B np.joined np.said (core np) q i l c
   pub token : (i : Instance) (b : Ballot) → np.mode ≡ Within i b → Standing B i np.tent → TokenOf B p q np nq kept link i b
   pub votes : (i : Instance) (c : ℕ) (y : Bool) → IsIn (a_vote i (a_key p c) y) nq.votes → IsMember np.joined i c
   -- a tentative checkpoint whose node said yes: what it heard from q is sent
   pub cover : (k : ℕ) → np.tent ≡ Some k → IsIn (a_mark (Check k) np.life) np.said
-      → Cover (Check k) (core nq) p (top_heard np.line q)
+      → Cover (Check k) (core nq) p (top_heard np.log q)
 
 abbrev pub Way : Mode → Option ℕ → Type 0
 Way Up tent = tent ≡ None
@@ -182,13 +185,13 @@ pub record BallotFits (peer : ℕ → ℕ → Bool) (o : ℕ) (n : Node) (i : In
 
 -- one node
 pub record Local (peer : ℕ → ℕ → Bool) (B : Board) (o : ℕ) (n : Node) : Type 0 where
-  pub falls : Falls n.line
-  pub tail : IsTail n.perm n.line
-  pub room : (q : ℕ) → Under (top_sent n.line q) (next_label n)
-  pub from : (by x : ℕ) (l : Label) → IsIn (Hears by x l) n.line → IsTrue (peer x o)
+  pub falls : Falls n.log
+  pub tail : IsTail n.perm n.log
+  pub room : (q : ℕ) → Under (top_sent n.log q) (next_label n)
+  pub from : (by x : ℕ) (l : Label) → IsIn (Hears by x l) n.log → IsTrue (peer x o)
   pub way : Way n.mode n.tent
   pub ballot : (i : Instance) (b : Ballot) → n.mode ≡ Within i b → BallotFits peer o n i b
-  pub root : (k : ℕ) (b : Ballot) → n.mode ≡ Within (Rollback k) b → b.parent ≡ None → n.line ≡ n.perm
+  pub root : (k : ℕ) (b : Ballot) → n.mode ≡ Within (Rollback k) b → b.parent ≡ None → n.log ≡ n.perm
   pub members : (i : Instance) (c : ℕ) → IsMember n.joined i c → (c ≤ n.life) × (B.begun i ≡ true)
   pub present : (i : Instance) → IsMember n.joined i n.life → B.verdict i ≡ Open → Engaged i n.mode n.tent
   pub marks : (i : Instance) (c : ℕ) → IsIn (a_mark i c) n.said → IsMember n.joined i c

@@ -1,9 +1,10 @@
 -- A node begins to vote in an instance: what stays as it was.
+-- Cited by Starts.
 use Rattle.std.proofs.Common.{◌≡◌, ◌≢◌, ◌⊎◌, ◌≤◌, ℕ, Bool, true, false, List, [], ◌∷◌, ◌++◌, Option, Some, None, inl, inr, refl, sym, ap, subst, ◌∙◌}
 use Rattle.std.proofs.Common.{append-nil, le_of_eq, if◌then◌else◌}
 use Rattle.kt_protocol.specs.Labels.{Label}
-use Rattle.kt_protocol.specs.Lines.{IsIn, here, there, top_heard}
-use Rattle.kt_protocol.specs.Machine.{Instance, Check, Rollback, Open, Key, Ballot, Within, Post, Message, App, Ask, Node, Board, instance_of, next_label}
+use Rattle.kt_protocol.specs.Logs.{IsIn, here, there, top_heard}
+use Rattle.kt_protocol.specs.Machine.{Instance, Check, Rollback, Open, Key, Ballot, Within, AppMessage, Message, App, Ask, Node, Board, instance_of, next_label}
 use Rattle.kt_protocol.specs.Steps.{stored, sieved, joining, ask_label, asking}
 use Rattle.kt_protocol.proofs.Labels.{UpTo-refl}
 use Rattle.kt_protocol.proofs.Streams.{in-append, in-one, in-cons, apps, apps-append, Rising, Rising-map, Rising-sub, Sub, Sub-refl, Sub-app, NoAsk, Asked}
@@ -28,7 +29,7 @@ pub record IsFree (B : Board) (i : Instance) (b : Ballot) (n : Node) : Type 0 wh
   pub gone : Gone n.mode → Gone (Within i b)
   pub away : (k : ℕ) → Away n.mode k → Away (Within i b) k
 
-pub label-top : (i : Instance) (n : Node) (q : ℕ) → ask_label i n q ≡ top_of i n.line n.perm q
+pub label-top : (i : Instance) (n : Node) (q : ℕ) → ask_label i n q ≡ top_of i n.log n.perm q
 label-top (Check k) n q = refl
 label-top (Rollback k) n q = refl
 
@@ -62,7 +63,7 @@ uncovered {B} (Check m) par cohort n k f e s =
 uncovered (Rollback m) par cohort n k f e s = some-none (sym e ∙ f.none)
 
 -- o joins and sends this to q
-join-pair : {B : Board} {p q : ℕ} {np nq : Node} {kept : List Post} {link : List Message} (i : Instance) (par : Option Key) (cohort : ℕ → Bool)
+join-pair : {B : Board} {p q : ℕ} {np nq : Node} {kept : List AppMessage} {link : List Message} (i : Instance) (par : Option Key) (cohort : ℕ → Bool)
     → IsFree B i (first_ballot par cohort) np → (ms : List Message) → apps ms ≡ []
     → ((j : Instance) (l : Label) (c : ℕ) → IsIn (Ask j l c) ms
     → FineAsk B (joining i par cohort np).joined np.said (core (joining i par cohort np)) q j l c)
@@ -71,7 +72,7 @@ join-pair : {B : Board} {p q : ℕ} {np nq : Node} {kept : List Post} {link : Li
 join-pair {B} {p} {q} {np} {nq} {kept} {link} i par cohort f ms bare fine token o = record {
   agree = o.agree;
   caused = λ b l h. elim (o.caused b l h) [ made j ↦ made j | lost u ↦ lost (undone-join i par cohort np f u) | cut_soon s ↦ cut_soon s ];
-  chain = subst (λ t. Rising (Carried (core new) q) (next_label np) (top_heard nq.line p) (kept ++ t)) (sym place)
+  chain = subst (λ t. Rising (Carried (core new) q) (next_label np) (top_heard nq.log p) (kept ++ t)) (sym place)
       (Rising-map (UpTo-refl (next_label np)) (λ m h c. elim c [ sent j ↦ sent j | undone u ↦ undone (undone-join i par cohort np f u) ]) o.chain);
   asks = λ j l c h. elim (in-append link ms h) [ inl k ↦ old j l c (o.asks j l c k) | inr k ↦ fine j l c k ];
   token = λ j b e s. subst (λ k. TokenOf B p q new nq kept (link ++ ms) k b) (voting-instance e)
@@ -102,9 +103,9 @@ ask-one {i} {j} {l} {m} {c} {z} P k h = subst Q (sym (in-one k)) h where
   Q (App a) = P j l c
   Q (Ask a b d) = P a b d
 
-pub join-out : {B : Board} {p q : ℕ} {np nq : Node} {kept : List Post} {link : List Message} (i : Instance) (par : Option Key) (cohort : ℕ → Bool)
+pub join-out : {B : Board} {p q : ℕ} {np nq : Node} {kept : List AppMessage} {link : List Message} (i : Instance) (par : Option Key) (cohort : ℕ → Bool)
     → IsFree B i (first_ballot par cohort) np → NoChild nq.joined i (a_key p np.life) → HasVoted nq.mode i (a_key p np.life)
-    → (cohort q ≡ false → (k : ℕ) × (i ≡ Check k) × Cover (Check k) (core nq) p (top_heard np.line q))
+    → (cohort q ≡ false → (k : ℕ) × (i ≡ Check k) × Cover (Check k) (core nq) p (top_heard np.log q))
     → Pair B p q np nq kept link → Pair B p q (joining i par cohort np) nq kept (link ++ asking i cohort np q)
 join-out {B} {p} {q} {np} {nq} {kept} {link} i par cohort f childless silent left o = go (cohort q) refl where
   new : Node
@@ -126,24 +127,24 @@ join-out {B} {p} {q} {np} {nq} {kept} {link} i par cohort f childless silent lef
         unsaid = λ e s. unknown np.life (f.marks i np.life s) refl;
         meant = λ e. meant-new i par cohort np q f;
       })
-      (asked e (subst (λ l. Asked i np.life (top_of i np.line np.perm q) (Behind B i) (link ++ Ask i l np.life ∷ [])) (sym (label-top i np q))
+      (asked e (subst (λ l. Asked i np.life (top_of i np.log np.perm q) (Behind B i) (link ++ Ask i l np.life ∷ [])) (sym (label-top i np q))
       (Asked-push link unasked (quiet-none B i))) unvoted childless) o
   go false e = join-pair i par cohort f [] refl (λ j l c h. elim h [ ])
       (let c = left e in voted true
       record {
         none = λ l h. unasked l (subst (λ m. IsIn (Ask i l np.life) m) (append-nil link) h);
         behind = subst (λ j. Behind B j (link ++ [])) (sym c.1) tt;
-        low = subst (λ j. KeptUpTo j (top_of i np.line np.perm q) kept) (sym c.1) tt;
+        low = subst (λ j. KeptUpTo j (top_of i np.log np.perm q) kept) (sym c.1) tt;
       }
       (λ y v. absurd (unvoted y v))
       (λ g. (covers c, λ d m. absurd (childless d m))) (λ g. inr refl)
       silent) o
     where
-      covers : (k : ℕ) × (i ≡ Check k) × Cover (Check k) (core nq) p (top_heard np.line q) → Cover i (core nq) p (top_of i np.line np.perm q)
-      covers c = subst (λ j. Cover j (core nq) p (top_of j np.line np.perm q)) (sym c.1) c.2
+      covers : (k : ℕ) × (i ≡ Check k) × Cover (Check k) (core nq) p (top_heard np.log q) → Cover i (core nq) p (top_of i np.log np.perm q)
+      covers c = subst (λ j. Cover j (core nq) p (top_of j np.log np.perm q)) (sym c.1) c.2
 
 -- a token of another key does not see that q joined
-token-join : {B : Board} (p q : ℕ) (np nq : Node) (kept : List Post) (link : List Message) (i : Instance) (par : Option Key) (cohort : ℕ → Bool)
+token-join : {B : Board} (p q : ℕ) (np nq : Node) (kept : List AppMessage) (link : List Message) (i : Instance) (par : Option Key) (cohort : ℕ → Bool)
     (j : Instance) (b : Ballot) → IsFree B i (first_ballot par cohort) nq → (j ≡ i → par ≡ Some (a_key p np.life) → ⊥)
     → TokenOf B p q np nq kept link j b → TokenOf B p q np (joining i par cohort nq) kept link j b
 token-join {B} p q np nq kept link i par cohort j b f other t = go t where
@@ -154,12 +155,13 @@ token-join {B} p q np nq kept link i par cohort j b f other t = go t where
   go (asked w a n c) = asked w a n (λ d m. c d (was d m))
   go (waiting w c n k) = waiting w c n (k.0, λ d m. k.1 d (was d m))
   go (voted y c n g r v) = voted y c n
-      (λ e. (cover-join i par cohort nq j p (top_of j np.line np.perm q) f (g e).0, λ d m. (g e).1 d (was d m))) r
+      (λ e. (cover-join i par cohort nq j p (top_of j np.log np.perm q) f (g e).0, λ d m. (g e).1 d (was d m))) r
       (λ d e g. absurd (other (sym (voting-instance e)) (ap (λ c. c.parent) (voting-ballot e) ∙ g)))
 
 -- p sends to o, and o joins
-pub join-into : {B : Board} {p q : ℕ} {np nq : Node} {kept old : List Post} {link was : List Message} (i : Instance) (par : Option Key) (cohort : ℕ → Bool)
-    (held : ℕ → List Post)
+pub join-into : {B : Board} {p q : ℕ} {np nq : Node} {kept old : List AppMessage} {link was : List Message} (i : Instance) (par : Option Key)
+    (cohort : ℕ → Bool)
+    (held : ℕ → List AppMessage)
     → IsFree B i (first_ballot par cohort) nq → Sub (kept ++ apps link) (old ++ apps was)
     → ((j : Instance) (l : Label) (c : ℕ) → IsIn (Ask j l c) link → IsIn (Ask j l c) was)
     → ((j : Instance) (b : Ballot) → TokenOf B p q np nq old was j b → TokenOf B p q np (joining i par cohort nq) kept link j b)
@@ -171,19 +173,19 @@ join-into {B} {p} {q} {np} {nq} i par cohort held f part behind token o = record
   asks = λ j l c h. o.asks j l c (behind j l c h);
   token = λ j b e s. token j b (o.token j b e s);
   votes = o.votes;
-  cover = λ k e s. cover-join i par cohort nq (Check k) p (top_heard np.line q) f (o.cover k e s);
+  cover = λ k e s. cover-join i par cohort nq (Check k) p (top_heard np.log q) f (o.cover k e s);
 }
 
-pub join-else : {B : Board} {p q : ℕ} {np nq : Node} {kept : List Post} {link : List Message} (i : Instance) (par : Option Key) (cohort : ℕ → Bool)
-    (held : ℕ → List Post)
+pub join-else : {B : Board} {p q : ℕ} {np nq : Node} {kept : List AppMessage} {link : List Message} (i : Instance) (par : Option Key) (cohort : ℕ → Bool)
+    (held : ℕ → List AppMessage)
     → IsFree B i (first_ballot par cohort) nq → ((j : Instance) → j ≡ i → par ≡ Some (a_key p np.life) → ⊥)
     → Pair B p q np nq kept link → Pair B p q np (joining i par cohort record nq { kept = held }) kept link
 join-else {B} {p} {q} {np} {nq} {kept} {link} i par cohort held f other o = join-into i par cohort held f (Sub-refl (kept ++ apps link)) (λ j l c h. h)
     (λ j b t. token-join p q np nq kept link i par cohort j b f (other j) t) o
 
 -- o joins by an ask of p: the token of the ask's key waits now
-pub join-hit : {B : Board} {p q : ℕ} {np nq : Node} {old : List Post} (j : Instance) (l : Label) (z : ℕ) (rest : List Message) (cohort : ℕ → Bool)
-    (held : ℕ → List Post)
+pub join-hit : {B : Board} {p q : ℕ} {np nq : Node} {old : List AppMessage} (j : Instance) (l : Label) (z : ℕ) (rest : List Message) (cohort : ℕ → Bool)
+    (held : ℕ → List AppMessage)
     → IsFree B j (first_ballot (Some (a_key p z)) cohort) nq
     → Pair B p q np nq old (Ask j l z ∷ rest) → Pair B p q np (joining j (Some (a_key p z)) cohort record nq { kept = held }) (sieved j l old) rest
 join-hit {B} {p} {q} {np} {nq} {old} j l z rest cohort held f o =
@@ -206,7 +208,7 @@ join-hit {B} {p} {q} {np} {nq} {old} j l z rest cohort held f o =
         (voted y (calm-ask i old c) n g r v)
 
 pub join-local : {peer : ℕ → ℕ → Bool} {B : Board} {o : ℕ} {n : Node} (i : Instance) (par : Option Key) (cohort : ℕ → Bool)
-    → IsFree B i (first_ballot par cohort) n → B.begun i ≡ true → ((k : ℕ) → i ≡ Rollback k → par ≡ None → n.line ≡ n.perm)
+    → IsFree B i (first_ballot par cohort) n → B.begun i ≡ true → ((k : ℕ) → i ≡ Rollback k → par ≡ None → n.log ≡ n.perm)
     → Local peer B o n → Local peer B o (joining i par cohort n)
 join-local {peer} {B} {o} {n} i par cohort f begun root w = record {
   falls = w.falls;

@@ -1,20 +1,21 @@
 -- Messages kept, taken from what is kept, and dropped.
+-- Cited by Answers, Main, Starts.
 use Rattle.std.proofs.Common.{◌≡◌, ◌≢◌, ◌⊎◌, ℕ, Bool, IsTrue, List, [], ◌∷◌, ◌++◌, None, inl, inr, refl, sym, subst, append_assoc}
 use Rattle.std.proofs.lemmas.Bool.{cases_eq}
 use Rattle.kt_protocol.specs.Labels.{Label}
-use Rattle.kt_protocol.specs.Lines.{IsIn, here, there}
-use Rattle.kt_protocol.specs.Machine.{Instance, Check, Rollback, Ballot, Up, Within, Post, Message, App, Ask, Vote, Node, Board, State}
+use Rattle.kt_protocol.specs.Logs.{IsIn, here, there}
+use Rattle.kt_protocol.specs.Machine.{Instance, Check, Rollback, Ballot, Up, Within, AppMessage, Message, App, Ask, Vote, Node, Board, State}
 use Rattle.kt_protocol.specs.Steps.{change, pull, hearing, keeping}
 use Rattle.kt_protocol.specs.Runs.{AreNeighbours}
 use Rattle.kt_protocol.proofs.Labels.{UpTo-eq, UpTo-trans, at-here, at-else}
-use Rattle.kt_protocol.proofs.Lines.{heard-here}
+use Rattle.kt_protocol.proofs.Logs.{heard-here}
 use Rattle.kt_protocol.proofs.Streams.{apps, Rising-head, Rising-sub, Sub, Sub-under, skip, Sub-refl, Asked-app}
 use Rattle.kt_protocol.proofs.Invariant.{core, a_vote, a_key, IsMember, Calm, Cover, asked, waiting, voted, Standing, TokenOf, Pair, Local, Invariant}
 use Rattle.kt_protocol.proofs.Cases.{lift_pull, lift_own}
 use Rattle.kt_protocol.proofs.Talks.{up-tent, up-out, hears_from, hears_else, hears-local, cover-check, no-app}
 
 -- q keeps and votes otherwise, and the link is shorter
-pub passes : {B : Board} {p q : ℕ} {np nq : Node} {kept old : List Post} {link was : List Message} (held : ℕ → List Post) (vs : List Vote)
+pub passes : {B : Board} {p q : ℕ} {np nq : Node} {kept old : List AppMessage} {link was : List Message} (held : ℕ → List AppMessage) (vs : List Vote)
     → Sub (kept ++ apps link) (old ++ apps was)
     → ((i : Instance) (l : Label) (c : ℕ) → IsIn (Ask i l c) link → IsIn (Ask i l c) was)
     → ((i : Instance) (b : Ballot) → np.mode ≡ Within i b → Standing B i np.tent → TokenOf B p q np nq old was i b
@@ -31,7 +32,7 @@ passes held vs part behind token votes o = record {
   cover = o.cover;
 }
 
-pub idle-out : {B : Board} {p q : ℕ} {np nq : Node} {kept : List Post} {link : List Message} (held : ℕ → List Post) (vs : List Vote)
+pub idle-out : {B : Board} {p q : ℕ} {np nq : Node} {kept : List AppMessage} {link : List Message} (held : ℕ → List AppMessage) (vs : List Vote)
     → Pair B p q np nq kept link → Pair B p q record np { kept = held; votes = vs } nq kept link
 idle-out held vs o = record {
   agree = o.agree;
@@ -43,7 +44,7 @@ idle-out held vs o = record {
   cover = o.cover;
 }
 
-pub idle-local : {peer : ℕ → ℕ → Bool} {B : Board} {o : ℕ} {n : Node} (held : ℕ → List Post) (vs : List Vote)
+pub idle-local : {peer : ℕ → ℕ → Bool} {B : Board} {o : ℕ} {n : Node} (held : ℕ → List AppMessage) (vs : List Vote)
     → Local peer B o n → Local peer B o record n { kept = held; votes = vs }
 idle-local held vs was = record {
   falls = was.falls;
@@ -60,19 +61,20 @@ idle-local held vs was = record {
 }
 
 -- a message at the front of the link goes
-calm-app : {B : Board} (i : Instance) {c : ℕ} {top : Label} {m : Post} {rest : List Message} (kept old : List Post)
+calm-app : {B : Board} (i : Instance) {c : ℕ} {top : Label} {m : AppMessage} {rest : List Message} (kept old : List AppMessage)
     → Calm B i c top old (App m ∷ rest) → Calm B i c top kept rest
 calm-app (Check k) kept old calm = record { none = λ l j. calm.none l (there j); behind = tt; low = tt }
 calm-app (Rollback k) kept old calm = no-app calm.behind.bare
 
-token-app : {B : Board} {p q : ℕ} (np nq : Node) {old : List Post} {m : Post} {rest : List Message} (kept : List Post) (held : ℕ → List Post)
+token-app : {B : Board} {p q : ℕ} (np nq : Node) {old : List AppMessage} {m : AppMessage} {rest : List Message} (kept : List AppMessage)
+    (held : ℕ → List AppMessage)
     (i : Instance) (b : Ballot)
     → TokenOf B p q np nq old (App m ∷ rest) i b → TokenOf B p q np record nq { kept = held; votes = nq.votes } kept rest i b
 token-app np nq {old = old} kept held i b (asked w a n c) = asked w (Asked-app a) n c
 token-app np nq {old = old} kept held i b (waiting w c n k) = waiting w (calm-app i kept old c) n k
 token-app np nq {old = old} kept held i b (voted y c n f r v) = voted y (calm-app i kept old c) n f r v
 
-pub step_keeps : (peer : ℕ → ℕ → Bool) → AreNeighbours peer → (s : State) (o x : ℕ) (m : Post) (rest : List Message)
+pub step_keeps : (peer : ℕ → ℕ → Bool) → AreNeighbours peer → (s : State) (o x : ℕ) (m : AppMessage) (rest : List Message)
     → IsTrue (peer x o) → s.link x o ≡ App m ∷ rest
     → Invariant peer s → Invariant peer (change o (λ n. keeping x (n.kept x ++ m ∷ []) n) (pull x o rest s))
 step_keeps peer near s o x m rest t front w =
@@ -87,7 +89,7 @@ step_keeps peer near s o x m rest t front w =
     n : Node
     n = s.node o
 
-    ks : List Post
+    ks : List AppMessage
     ks = n.kept x ++ m ∷ []
 
     new : Node
@@ -99,7 +101,7 @@ step_keeps peer near s o x m rest t front w =
     part : Sub (ks ++ apps rest) (n.kept x ++ m ∷ apps rest)
     part = subst (λ l. Sub l (n.kept x ++ m ∷ apps rest)) (sym (append_assoc (n.kept x) (m ∷ []) (apps rest))) (Sub-refl (n.kept x ++ m ∷ apps rest))
 
-pub step_drops : (peer : ℕ → ℕ → Bool) → AreNeighbours peer → (s : State) (o x : ℕ) (m : Post) (rest : List Message)
+pub step_drops : (peer : ℕ → ℕ → Bool) → AreNeighbours peer → (s : State) (o x : ℕ) (m : AppMessage) (rest : List Message)
     → IsTrue (peer x o) → s.link x o ≡ App m ∷ rest
     → Invariant peer s → Invariant peer (change o (λ n. n) (pull x o rest s))
 step_drops peer near s o x m rest t front w =
@@ -116,13 +118,13 @@ step_drops peer near s o x m rest t front w =
     pair : Pair s.board x o (s.node x) n (n.kept x) (App m ∷ rest)
     pair = subst (λ link. Pair s.board x o (s.node x) n (n.kept x) link) front (w.pair x o t)
 
-pub step_takes : (peer : ℕ → ℕ → Bool) → AreNeighbours peer → (s : State) (o x : ℕ) (m : Post) (ks : List Post)
+pub step_takes : (peer : ℕ → ℕ → Bool) → AreNeighbours peer → (s : State) (o x : ℕ) (m : AppMessage) (ks : List AppMessage)
     → IsTrue (peer x o) → (s.node o).mode ≡ Up → (s.node o).kept x ≡ m ∷ ks
     → Invariant peer s → Invariant peer (change o (λ n. hearing x m (keeping x ks n)) s)
 step_takes peer near s o x m ks t up first w =
     lift_own peer near s o new refl refl
     (hears-local x m new.kept up t (Rising-head pair.chain).0 (w.local o))
-    (λ q u ne. up-out new.line new.kept up none (λ b l i. there i) (w.pair o q u))
+    (λ q u ne. up-out new.log new.kept up none (λ b l i. there i) (w.pair o q u))
     (λ p u ne. into p u (cases_eq p x)) w
   where
     n : Node
@@ -145,7 +147,7 @@ step_takes peer near s o x m ks t up first w =
     )
     heard (Rollback k) c top calm = (
       record { none = calm.none; behind = calm.behind; low = λ k i. calm.low k (there i) },
-      λ v. inr (UpTo-trans (UpTo-eq (heard-here m.by x m.label n.line)) (calm.low m here)),
+      λ v. inr (UpTo-trans (UpTo-eq (heard-here m.by x m.label n.log)) (calm.low m here)),
     )
 
     into : (p : ℕ) → IsTrue (peer p o) → (p ≡ x) ⊎ (p ≢ x) → Pair s.board p o (s.node p) new (new.kept p) (s.link p o)

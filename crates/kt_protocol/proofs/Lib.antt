@@ -1,5 +1,5 @@
 pub mod Labels
-pub mod Lines
+pub mod Logs
 pub mod Streams
 pub mod Invariant
 pub mod Frames

@@ -1,15 +1,18 @@
 -- The invariant holds in every state that is reached, and what follows from it.
+-- Cited by Grounds, `laws::held_is_forced`, `laws::nothing_remembered_is_undone`,
+--   `laws::permanent_checkpoints_agree`, `laws::rolling_is_forced`; kt_refinement.
 use Rattle.std.proofs.Common.{◌≡◌, ◌⊎◌, ℕ, Bool, true, List, [], ◌∷◌, ◌++◌, Option, Some, None, inl, inr, sym, ap, subst, ◌∙◌, arith}
 use Rattle.kt_protocol.specs.Labels.{Label, Under, UpTo}
-use Rattle.kt_protocol.specs.Lines.{IsIn, here, there, Hears, Resumes, IsTail, all, top_sent, top_heard}
-use Rattle.kt_protocol.specs.Machine.{Instance, Check, Rollback, Ballot, Mode, Up, Within, Down, Post, Message, Ask, Member, Node, Board, State, next_label}
+use Rattle.kt_protocol.specs.Logs.{IsIn, here, there, Hears, Resumes, IsTail, all, top_sent, top_heard}
+use Rattle.kt_protocol.specs.Machine.{Instance, Check, Rollback, Ballot, Mode, Up, Within, Down, AppMessage, Message, Ask, Member, Node, Board, State}
+use Rattle.kt_protocol.specs.Machine.{next_label}
 use Rattle.kt_protocol.specs.Steps.{Step, sends, hears, keeps, takes, drops, ignores, refuses, grants, joins, begins, restarts, counts, agrees, declines}
 use Rattle.kt_protocol.specs.Steps.{decides_rollback, decides_check, gives_up_rollback, gives_up_check, learns_yes, learns_no, releases, fails, fails_holding}
 use Rattle.kt_protocol.specs.Steps.{change, pull, consenting}
 use Rattle.kt_protocol.specs.Runs.{AreNeighbours, IsNew, IsResumed, IsFirst, new, resumed, IsBeginning, Run, nothing_done, one_more}
 use Rattle.kt_protocol.specs.Laws.{IsReached}
 use Rattle.kt_protocol.proofs.Labels.{at-here, UpTo-Under, UpTo-least}
-use Rattle.kt_protocol.proofs.Lines.{Falls}
+use Rattle.kt_protocol.proofs.Logs.{Falls}
 use Rattle.kt_protocol.proofs.Streams.{apps, Rising, ends}
 use Rattle.kt_protocol.proofs.Invariant.{core, a_vote, a_key, a_member, a_mark, Carried, Pair, Way, Local, Invariant}
 use Rattle.kt_protocol.proofs.Frames.{at-same}
@@ -29,13 +32,13 @@ use Rattle.kt_protocol.proofs.Checks.{step_gives_up_check, step_promotes}
 empty : {A : Type 0} {x : A} → IsIn x [] → ⊥
 empty i = elim i [ ]
 
--- a node at rest: nothing is to be cut off its line, and it knows nothing of the others but the last labels
+-- a node at rest: nothing is to be cut off its log, and it knows nothing of the others but the last labels
 record IsAtRest (n : Node) : Type 0 where
   mode : (n.mode ≡ Up) ⊎ (n.mode ≡ Down)
-  cut : n.line ≡ n.perm
-  falls : Falls n.line
-  room : (q : ℕ) → Under (top_sent n.line q) (next_label n)
-  silent : (b x : ℕ) (l : Label) → IsIn (Hears b x l) n.line → ⊥
+  cut : n.log ≡ n.perm
+  falls : Falls n.log
+  room : (q : ℕ) → Under (top_sent n.log q) (next_label n)
+  silent : (b x : ℕ) (l : Label) → IsIn (Hears b x l) n.log → ⊥
   tent : n.tent ≡ None
   kept : (x : ℕ) → n.kept x ≡ []
   votes : n.votes ≡ []
@@ -46,10 +49,10 @@ new-rests : (n : Node) → IsNew n → IsAtRest n
 unfolding top_sent
 new-rests n w = record {
   mode = inl w.mode;
-  cut = w.line ∙ sym w.perm;
-  falls = subst Falls (sym w.line) tt;
-  room = λ q. subst (λ t. Under (top_sent t q) (next_label n)) (sym w.line) (first q);
-  silent = λ b x l i. empty (subst (λ t. IsIn (Hears b x l) t) w.line i);
+  cut = w.log ∙ sym w.perm;
+  falls = subst Falls (sym w.log) tt;
+  room = λ q. subst (λ t. Under (top_sent t q) (next_label n)) (sym w.log) (first q);
+  silent = λ b x l i. empty (subst (λ t. IsIn (Hears b x l) t) w.log i);
   tent = w.tent;
   kept = w.kept;
   votes = w.votes;
@@ -63,10 +66,10 @@ resumed-rests : (first o : ℕ) (n : Node) → IsResumed first o n → IsAtRest 
 unfolding top_sent top_heard
 resumed-rests first o n w = record {
   mode = inr w.mode;
-  cut = w.line ∙ sym w.perm;
-  falls = subst Falls (sym w.line) (λ q. UpTo-least (w.sent q), λ q. UpTo-least (w.heard q), tt);
-  room = λ q. subst (λ t. Under (top_sent t q) (next_label n)) (sym w.line) (w.room q);
-  silent = λ b x l i. only b x l (subst (λ t. IsIn (Hears b x l) t) w.line i);
+  cut = w.log ∙ sym w.perm;
+  falls = subst Falls (sym w.log) (λ q. UpTo-least (w.sent q), λ q. UpTo-least (w.heard q), tt);
+  room = λ q. subst (λ t. Under (top_sent t q) (next_label n)) (sym w.log) (w.room q);
+  silent = λ b x l i. only b x l (subst (λ t. IsIn (Hears b x l) t) w.log i);
   tent = w.tent;
   kept = w.kept;
   votes = w.votes;
@@ -103,20 +106,20 @@ rest-local peer B o n w = record {
   holding = λ k e. some-none (sym e ∙ w.tent);
 }
 
-rest-pair : (B : Board) (p q : ℕ) (np nq : Node) (kept : List Post) (link : List Message) → IsAtRest np → IsAtRest nq → kept ≡ [] → link ≡ []
+rest-pair : (B : Board) (p q : ℕ) (np nq : Node) (kept : List AppMessage) (link : List Message) → IsAtRest np → IsAtRest nq → kept ≡ [] → link ≡ []
     → UpTo (top_heard nq.perm p) (top_sent np.perm q) → Pair B p q np nq kept link
 rest-pair B p q np nq kept link u v e f agree = record {
   agree = agree;
   caused = λ b l i. absurd (v.silent b p l i);
-  chain = subst (λ k. Rising (Carried (core np) q) (next_label np) (top_heard nq.line p) (k ++ apps link)) (sym e)
-      (subst (λ m. Rising (Carried (core np) q) (next_label np) (top_heard nq.line p) ([] ++ apps m)) (sym f) (ends below));
+  chain = subst (λ k. Rising (Carried (core np) q) (next_label np) (top_heard nq.log p) (k ++ apps link)) (sym e)
+      (subst (λ m. Rising (Carried (core np) q) (next_label np) (top_heard nq.log p) ([] ++ apps m)) (sym f) (ends below));
   asks = λ i l c m. absurd (empty (subst (λ t. IsIn (Ask i l c) t) f m));
   token = λ i b g. unvoting u.mode g;
   votes = λ i c y m. absurd (empty (subst (λ t. IsIn (a_vote i (a_key p c) y) t) v.votes m));
   cover = λ k g. some-none (sym g ∙ u.tent);
 } where
-  below : Under (top_heard nq.line p) (next_label np)
-  below = UpTo-Under (subst (λ t. UpTo (top_heard t p) (top_sent np.line q)) (sym v.cut)
+  below : Under (top_heard nq.log p) (next_label np)
+  below = UpTo-Under (subst (λ t. UpTo (top_heard t p) (top_sent np.log q)) (sym v.cut)
       (subst (λ t. UpTo (top_heard nq.perm p) (top_sent t q)) (sym u.cut) agree)) (u.room q)
 
 beginning : (peer : ℕ → ℕ → Bool) (s : State) → IsBeginning peer s → Invariant peer s

@@ -1,13 +1,14 @@
 -- Verdicts learnt, and nodes that are up again.
+-- Cited by Main.
 use Rattle.std.proofs.Common.{◌≡◌, ◌≢◌, ◌⊎◌, ℕ, suc, Bool, IsTrue, List, [], ◌++◌, Some, None, inl, inr, refl, sym, ap, subst, ◌∙◌, arith}
 use Rattle.kt_protocol.specs.Labels.{Label, Under, UpTo}
-use Rattle.kt_protocol.specs.Lines.{IsIn, Act, Sends, Hears, all, top_sent, top_heard}
-use Rattle.kt_protocol.specs.Machine.{Instance, Check, Rollback, Open, Yes, No, Key, Ballot, Up, Within, Down, Post, Message, Ask, Node, Board, State}
+use Rattle.kt_protocol.specs.Logs.{IsIn, Act, Sends, Hears, all, top_sent, top_heard}
+use Rattle.kt_protocol.specs.Machine.{Instance, Check, Rollback, Open, Yes, No, Key, Ballot, Up, Within, Down, AppMessage, Message, Ask, Node, Board, State}
 use Rattle.kt_protocol.specs.Machine.{instance_of, next_label}
 use Rattle.kt_protocol.specs.Steps.{change, loading, rising, nothing_kept, decide}
 use Rattle.kt_protocol.specs.Runs.{AreNeighbours}
 use Rattle.kt_protocol.proofs.Labels.{UpTo-trans, UpTo-Under, Under-UpTo, Under-not, UpTo-refl}
-use Rattle.kt_protocol.proofs.Lines.{Falls, Falls-tail, sent-tail, heard-top, sent-split, tail-in}
+use Rattle.kt_protocol.proofs.Logs.{Falls, Falls-tail, sent-tail, heard-top, sent-split, tail-in}
 use Rattle.kt_protocol.proofs.Streams.{apps, in-append, Rising-map}
 use Rattle.kt_protocol.proofs.Invariant.{core, a_member, a_mark, IsMember, Gone, sent, undone, CutSoon, made, lost, cut_soon, Calm, Cover, asked}
 use Rattle.kt_protocol.proofs.Invariant.{waiting, voted, Standing, Away, Meant, top_of, TokenOf, Pair, Engaged, Local, Descends, Trees, Invariant}
@@ -19,13 +20,14 @@ use Rattle.kt_protocol.proofs.Verdicts.{decide-cases, decide-at, decide-fresh, d
 use Rattle.kt_protocol.proofs.Cuts.{rolling-none, cut-into}
 
 -- a node whose rollback has Yes is up again: all whom it asked are covered
-up-settled : {B C : Board} {p q : ℕ} {np nq : Node} {kept : List Post} {link : List Message} (k life count : ℕ) (line : List Act) (held : ℕ → List Post)
-    → Later B C → C.verdict (Rollback k) ≡ Yes → np.tent ≡ None → Falls nq.line
+up-settled : {B C : Board} {p q : ℕ} {np nq : Node} {kept : List AppMessage} {link : List Message} (k life count : ℕ) (log : List Act)
+    (held : ℕ → List AppMessage)
+    → Later B C → C.verdict (Rollback k) ≡ Yes → np.tent ≡ None → Falls nq.log
     → UpTo (next_label np) record { life = life; count = suc count }
-    → ((b : ℕ) (l : Label) → IsIn (Sends b q l) np.line → IsIn (Sends b q l) line ⊎ Under (top_sent np.perm q) l)
+    → ((b : ℕ) (l : Label) → IsIn (Sends b q l) np.log → IsIn (Sends b q l) log ⊎ Under (top_sent np.perm q) l)
     → Calm B (Rollback k) np.life (top_sent np.perm q) kept link → Cover (Rollback k) (core nq) p (top_sent np.perm q)
-    → Pair B p q np nq kept link → Pair C p q record np { mode = Up; life = life; count = count; line = line; kept = held } nq kept link
-up-settled {B} {C} {p} {q} {np} {nq} {kept} {link} k life count line held later decided none falls grows keeps calm covered o = record {
+    → Pair B p q np nq kept link → Pair C p q record np { mode = Up; life = life; count = count; log = log; kept = held } nq kept link
+up-settled {B} {C} {p} {q} {np} {nq} {kept} {link} k life count log held later decided none falls grows keeps calm covered o = record {
   agree = o.agree;
   caused = λ b l h. elim (o.caused b l h) [
     | made j ↦ elim (keeps b l j) [ inl i ↦ made i | inr u ↦ cut_soon (soon h u covered) ]
@@ -46,17 +48,17 @@ up-settled {B} {C} {p} {q} {np} {nq} {kept} {link} k life count line held later 
   cover = λ k e s. some-none (sym e ∙ none);
 } where
   new : Node
-  new = record np { mode = Up; life = life; count = count; line = line; kept = held }
+  new = record np { mode = Up; life = life; count = count; log = log; kept = held }
 
-  low : (m : Post) → IsIn m (kept ++ apps link) → UpTo m.label (top_sent np.perm q)
+  low : (m : AppMessage) → IsIn m (kept ++ apps link) → UpTo m.label (top_sent np.perm q)
   low m h = elim (in-append kept (apps link) h) [ inl i ↦ calm.low m i | inr i ↦ empty (subst (λ t. IsIn m t) calm.behind.bare i) ] where
     empty : IsIn m [] → UpTo m.label (top_sent np.perm q)
     empty i = elim i [ ]
 
-  soon : {b : ℕ} {l : Label} → IsIn (Hears b p l) nq.line → Under (top_sent np.perm q) l → Cover (Rollback k) (core nq) p (top_sent np.perm q)
+  soon : {b : ℕ} {l : Label} → IsIn (Hears b p l) nq.log → Under (top_sent np.perm q) l → Cover (Rollback k) (core nq) p (top_sent np.perm q)
       → CutSoon C nq.mode nq.perm p l
   soon h u (inl r) = record { number = k; rolls = r; decided = decided; above = UpTo-Under o.agree u }
-  soon h u (inr r) = absurd (Under-not u (UpTo-trans (heard-top nq.line falls h) r))
+  soon h u (inr r) = absurd (Under-not u (UpTo-trans (heard-top nq.log falls h) r))
 
   meant : (j : Instance) (l : Label) (c : ℕ) → IsIn (Ask j l c) link → B.verdict j ≡ Open → Meant j (core np) q l → Meant j (core new) q l
   meant (Check m) l c h e f = some-none (sym f.0 ∙ none)
@@ -111,11 +113,11 @@ step_learns_yes peer near s o k b e decided w =
       holding = λ m e. some-none (sym e ∙ none);
     }
 
--- a node is up, its line as it was
-rise-into : {B : Board} {p q : ℕ} {np nq : Node} {kept : List Post} {link : List Message}
-    → ((b : ℕ) (l : Label) → IsIn (Hears b p l) nq.line → CutSoon B nq.mode nq.perm p l → ⊥)
-    → ((i : Instance) (b : Ballot) → np.mode ≡ Within i b → Standing B i np.tent → Cover i (core nq) p (top_of i np.line np.perm q)
-    → Cover i (core (rising nq)) p (top_of i np.line np.perm q))
+-- a node is up, its log as it was
+rise-into : {B : Board} {p q : ℕ} {np nq : Node} {kept : List AppMessage} {link : List Message}
+    → ((b : ℕ) (l : Label) → IsIn (Hears b p l) nq.log → CutSoon B nq.mode nq.perm p l → ⊥)
+    → ((i : Instance) (b : Ballot) → np.mode ≡ Within i b → Standing B i np.tent → Cover i (core nq) p (top_of i np.log np.perm q)
+    → Cover i (core (rising nq)) p (top_of i np.log np.perm q))
     → Pair B p q np nq kept link → Pair B p q np (rising nq) kept link
 rise-into {B} {p} {q} {np} {nq} {kept} {link} uncut cover o = record {
   agree = o.agree;
@@ -132,7 +134,7 @@ rise-into {B} {p} {q} {np} {nq} {kept} {link} uncut cover o = record {
   token i b e s (waiting w c n k) = waiting w c n k
   token i b e s (voted y c n f r v) = voted y c n (λ g. (cover i b e s (f g).0, (f g).1)) r (λ c e f. up-voting refl e)
 
-rise-out : {B : Board} {p q : ℕ} {np nq : Node} {kept : List Post} {link : List Message} → np.tent ≡ None → (Gone np.mode → ⊥)
+rise-out : {B : Board} {p q : ℕ} {np nq : Node} {kept : List AppMessage} {link : List Message} → np.tent ≡ None → (Gone np.mode → ⊥)
     → ((k : ℕ) → B.verdict (Rollback k) ≡ Open → Away np.mode k → ⊥)
     → Pair B p q np nq kept link → Pair B p q (rising np) nq kept link
 rise-out {B} {p} {q} {np} {nq} {kept} {link} none back away o = record {
@@ -201,7 +203,7 @@ step_learns_no peer near s o k b p e par decided w =
     away m opened (inr g) = closed m g opened
 
     cover : (x : ℕ) (i : Instance) (d : Ballot) → (s.node x).mode ≡ Within i d → Standing s.board i (s.node x).tent
-        → Cover i (core n) x (top_of i (s.node x).line (s.node x).perm o) → Cover i (core (rising n)) x (top_of i (s.node x).line (s.node x).perm o)
+        → Cover i (core n) x (top_of i (s.node x).log (s.node x).perm o) → Cover i (core (rising n)) x (top_of i (s.node x).log (s.node x).perm o)
     cover x (Check m) d f st c = c
     cover x (Rollback m) d f st (inl u) = absurd (st (subst (λ m. s.board.verdict (Rollback m) ≡ No) (number m u) decided))
     cover x (Rollback m) d f st (inr u) = inr u
@@ -225,7 +227,7 @@ step_releases peer near s o k b e none w =
     idle m (inr g) = down-voting g e
 
     cover : (x : ℕ) (i : Instance) (d : Ballot) → (s.node x).mode ≡ Within i d → Standing s.board i (s.node x).tent
-        → Cover i (core n) x (top_of i (s.node x).line (s.node x).perm o) → Cover i (core (rising n)) x (top_of i (s.node x).line (s.node x).perm o)
+        → Cover i (core n) x (top_of i (s.node x).log (s.node x).perm o) → Cover i (core (rising n)) x (top_of i (s.node x).log (s.node x).perm o)
     cover x (Check m) d f st c = c
     cover x (Rollback m) d f st (inl u) = other m u
     cover x (Rollback m) d f st (inr u) = inr u
@@ -240,7 +242,7 @@ step_rises peer near s o k b e par opened said w =
     (λ p q ne nf. refl)
     (rise-local none idle (Local-later later checks was))
     (λ q u ne. let both = said_settled o k q b e (λ f. open-no opened f) said u w in
-    up-settled k n.life n.count n.line n.kept later decided none (w.local q).falls (UpTo-refl (next_label n)) (λ b l i. inl i) both.0 both.1 (w.pair o q u))
+    up-settled k n.life n.count n.log n.kept later decided none (w.local q).falls (UpTo-refl (next_label n)) (λ b l i. inl i) both.0 both.1 (w.pair o q u))
     (λ x u ne. Pair-later later (rise-into (λ y l h c. uncut x y l h c) (cover x u) (w.pair x o u)))
     (Trees-idle o (rising n) s.node refl refl trees) w
   where
@@ -265,7 +267,7 @@ step_rises peer near s o k b e par opened said w =
     none : n.tent ≡ None
     none = rolling-none n.mode n.tent was.way (ap instance_of e)
 
-    cut : n.line ≡ n.perm
+    cut : n.log ≡ n.perm
     cut = was.root k b e par
 
     top : IsIn (a_member (Rollback k) n.life None) n.joined
@@ -275,11 +277,11 @@ step_rises peer near s o k b e par opened said w =
     idle m f (inl g) = open-yes f (subst (λ m. C.verdict (Rollback m) ≡ Yes) (rollback-one (some-one (sym (ap instance_of e) ∙ g))) decided)
     idle m f (inr g) = down-voting g e
 
-    uncut : (x y : ℕ) (l : Label) → IsIn (Hears y x l) n.line → CutSoon s.board n.mode n.perm x l → ⊥
+    uncut : (x y : ℕ) (l : Label) → IsIn (Hears y x l) n.log → CutSoon s.board n.mode n.perm x l → ⊥
     uncut x y l h c = Under-not c.above (heard-top n.perm (Falls-tail was.tail was.falls) (subst (λ t. IsIn (Hears y x l) t) cut h))
 
     cover : (x : ℕ) → IsTrue (peer x o) → (i : Instance) (d : Ballot) → (s.node x).mode ≡ Within i d → Standing s.board i (s.node x).tent
-        → Cover i (core n) x (top_of i (s.node x).line (s.node x).perm o) → Cover i (core (rising n)) x (top_of i (s.node x).line (s.node x).perm o)
+        → Cover i (core n) x (top_of i (s.node x).log (s.node x).perm o) → Cover i (core (rising n)) x (top_of i (s.node x).log (s.node x).perm o)
     cover x u (Check m) d f st c = c
     cover x u (Rollback m) d f st (inl g) = inr (subst (λ t. UpTo (top_heard t x) (top_sent (s.node x).perm o)) (sym cut) (w.pair x o u).agree)
     cover x u (Rollback m) d f st (inr g) = inr g

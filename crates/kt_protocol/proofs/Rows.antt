@@ -1,9 +1,10 @@
 -- The rows of the two asks are steps.
+-- Cited by `laws::the_row_of_a_check_ask_is_a_step`, `laws::the_row_of_a_rollback_ask_is_a_step`; kt_refinement.
 use Rattle.std.proofs.Common.{◌≡◌, ◌⊎◌, ℕ, Bool, true, false, not, ◌&&◌, IsTrue, ◌∷◌, Option, Some, None, inl, inr, refl, ap, ◌∙◌, eqb, ltb, leb, ◌<◌, ◌≤◌}
 use Rattle.std.proofs.Common.{if◌then◌else◌, arith}
 use Rattle.std.proofs.lemmas.Bool.{cases_lt, and_parts, and_from, or_left, or_right, eqb-true, eq-eqb, lt-ltb, le-leb}
 use Rattle.kt_protocol.specs.Labels.{Label, Under, UpTo, up_to}
-use Rattle.kt_protocol.specs.Lines.{top_sent, top_heard}
+use Rattle.kt_protocol.specs.Logs.{top_sent, top_heard}
 use Rattle.kt_protocol.specs.Machine.{Check, Rollback, Verdict, Open, Yes, No, Mode, Up, Within, Down, Ask, Node, State, instance_of}
 use Rattle.kt_protocol.specs.Steps.{Step, ignores, refuses, grants, joins, IsCohort}
 use Rattle.kt_protocol.specs.Rows.{Asking, is_open, roll_in_mode, roll_row, hear_roll_ask, check_cohort, reaches, holds, check_in_mode, check_row}
@@ -31,7 +32,7 @@ up_to-false a b e = elim (Label-cases a b) [ inl u ↦ true-false (up_to-holds a
 
 -- the ask of a rollback
 roll-in-mode : (peer : ℕ → ℕ → Bool) (k o x : ℕ) (a : Asking) (s : State) → IsTrue (peer x o) → s.link x o ≡ Ask (Rollback k) a.label a.life ∷ a.rest
-    → s.board.verdict (Rollback k) ≡ Open → Under a.label (top_heard (s.node o).line x) → (m : Mode) → (s.node o).mode ≡ m
+    → s.board.verdict (Rollback k) ≡ Open → Under a.label (top_heard (s.node o).log x) → (m : Mode) → (s.node o).mode ≡ m
     → Step peer s (roll_in_mode peer k o x a s m)
 roll-in-mode peer k o x a s t front opened u Up e =
     joins o x (Rollback k) a.label a.life a.rest (peer o) t front e opened u record { within = λ q f. f; covers = λ q f g. f }
@@ -44,15 +45,15 @@ roll-in-mode peer k o x a s t front opened u Down e = refuses o x (Rollback k) a
 
 roll-row : (peer : ℕ → ℕ → Bool) (k o x : ℕ) (a : Asking) (s : State) → IsTrue (peer x o) → s.link x o ≡ Ask (Rollback k) a.label a.life ∷ a.rest
     → Step peer s (roll_row peer k o x a s)
-roll-row peer k o x a s t front = go (is_open (s.board.verdict (Rollback k))) refl (up_to (top_heard (s.node o).line x) a.label) refl where
-  go : (v : Bool) → is_open (s.board.verdict (Rollback k)) ≡ v → (h : Bool) → up_to (top_heard (s.node o).line x) a.label ≡ h
+roll-row peer k o x a s t front = go (is_open (s.board.verdict (Rollback k))) refl (up_to (top_heard (s.node o).log x) a.label) refl where
+  go : (v : Bool) → is_open (s.board.verdict (Rollback k)) ≡ v → (h : Bool) → up_to (top_heard (s.node o).log x) a.label ≡ h
       → Step peer s (if not v then answer_ask (Rollback k) o x a false s else (if h then answer_ask (Rollback k) o x a true s
       else roll_in_mode peer k o x a s (s.node o).mode))
   go false e h f = refuses o x (Rollback k) a.label a.life a.rest t front
   go true e true f = grants o x (Rollback k) a.label a.life a.rest t front (open-true (s.board.verdict (Rollback k)) e)
-      (inr (up_to-true (top_heard (s.node o).line x) a.label f))
+      (inr (up_to-true (top_heard (s.node o).log x) a.label f))
   go true e false f = roll-in-mode peer k o x a s t front (open-true (s.board.verdict (Rollback k)) e)
-      (up_to-false (top_heard (s.node o).line x) a.label f) (s.node o).mode refl
+      (up_to-false (top_heard (s.node o).log x) a.label f) (s.node o).mode refl
 
 pub roll-ask-step : (peer : ℕ → ℕ → Bool) (k o x : ℕ) (a : Asking) (s : State) → IsTrue (peer x o)
     → s.link x o ≡ Ask (Rollback k) a.label a.life ∷ a.rest → Step peer s (hear_roll_ask peer k o x a s (s.node o).mode)
@@ -65,9 +66,9 @@ roll-ask-step peer k o x a s t front = go (s.node o).mode where
 -- the ask of a check
 check-cohort : (peer : ℕ → ℕ → Bool) (k o : ℕ) (n : Node) → IsCohort peer (Check k) o n (check_cohort peer o n)
 check-cohort peer k o n = record {
-  within = λ q e. (and_parts (peer o q) (not (up_to (top_heard n.line q) (top_heard n.perm q))) e).0;
-  covers = λ q t u. and_from (peer o q) (not (up_to (top_heard n.line q) (top_heard n.perm q))) t
-      (negated (up_to (top_heard n.line q) (top_heard n.perm q)) (λ e. Under-not u (up_to-true (top_heard n.line q) (top_heard n.perm q) e)));
+  within = λ q e. (and_parts (peer o q) (not (up_to (top_heard n.log q) (top_heard n.perm q))) e).0;
+  covers = λ q t u. and_from (peer o q) (not (up_to (top_heard n.log q) (top_heard n.perm q))) t
+      (negated (up_to (top_heard n.log q) (top_heard n.perm q)) (λ e. Under-not u (up_to-true (top_heard n.log q) (top_heard n.perm q) e)));
 } where
   negated : (b : Bool) → (b ≡ true → ⊥) → not b ≡ true
   negated true ne = absurd (ne refl)
@@ -79,18 +80,18 @@ check-holds (Some j) k e = ap Some (eqb-true j k e)
 
 check-held : (peer : ℕ → ℕ → Bool) (k o x : ℕ) (a : Asking) (s : State) → IsTrue (peer x o) → s.link x o ≡ Ask (Check k) a.label a.life ∷ a.rest
     → s.board.verdict (Check k) ≡ Open
-    → Step peer s (answer_ask (Check k) o x a (holds (s.node o).tent k && up_to a.label (top_sent (s.node o).line x)) s)
-check-held peer k o x a s t front opened = go (holds (s.node o).tent k && up_to a.label (top_sent (s.node o).line x)) refl where
-  go : (y : Bool) → (holds (s.node o).tent k && up_to a.label (top_sent (s.node o).line x)) ≡ y → Step peer s (answer_ask (Check k) o x a y s)
-  go true e = let parts = and_parts (holds (s.node o).tent k) (up_to a.label (top_sent (s.node o).line x)) e in
+    → Step peer s (answer_ask (Check k) o x a (holds (s.node o).tent k && up_to a.label (top_sent (s.node o).log x)) s)
+check-held peer k o x a s t front opened = go (holds (s.node o).tent k && up_to a.label (top_sent (s.node o).log x)) refl where
+  go : (y : Bool) → (holds (s.node o).tent k && up_to a.label (top_sent (s.node o).log x)) ≡ y → Step peer s (answer_ask (Check k) o x a y s)
+  go true e = let parts = and_parts (holds (s.node o).tent k) (up_to a.label (top_sent (s.node o).log x)) e in
       grants o x (Check k) a.label a.life a.rest t front opened
-      (inr (check-holds (s.node o).tent k parts.0, up_to-true a.label (top_sent (s.node o).line x) parts.1))
+      (inr (check-holds (s.node o).tent k parts.0, up_to-true a.label (top_sent (s.node o).log x) parts.1))
   go false e = refuses o x (Check k) a.label a.life a.rest t front
 
 check-in-mode : (peer : ℕ → ℕ → Bool) (k o x : ℕ) (a : Asking) (first : Option Label) (s : State) → IsTrue (peer x o)
     → s.link x o ≡ Ask (Check k) a.label a.life ∷ a.rest → s.board.verdict (Check k) ≡ Open → Under (top_sent (s.node o).perm x) a.label
     → (m : Mode) → (s.node o).mode ≡ m → Step peer s (check_in_mode peer k o x a first s m)
-check-in-mode peer k o x a first s t front opened u Up e = go (reaches first a.label && up_to a.label (top_sent (s.node o).line x)) where
+check-in-mode peer k o x a first s t front opened u Up e = go (reaches first a.label && up_to a.label (top_sent (s.node o).log x)) where
   go : (y : Bool) → Step peer s (if y then join_by_ask (Check k) o x a (check_cohort peer o (s.node o)) s else answer_ask (Check k) o x a false s)
   go true = joins o x (Check k) a.label a.life a.rest (check_cohort peer o (s.node o)) t front e opened u (check-cohort peer k o (s.node o))
   go false = refuses o x (Check k) a.label a.life a.rest t front

@@ -1,15 +1,17 @@
 -- Steps by which a node begins to vote: an ask makes it join, it begins a check, it restarts.
+-- Cited by Consequences, Main.
 use Rattle.std.proofs.Common.{◌≡◌, ◌≢◌, ◌⊎◌, ℕ, suc, Bool, true, false, IsTrue, List, [], ◌∷◌, ◌++◌, Option, Some, None, inl, inr, refl, sym, ap, subst, ◌∙◌}
 use Rattle.std.proofs.Common.{arith, if◌then◌else◌}
 use Rattle.std.proofs.lemmas.Bool.{cases_eq}
 use Rattle.kt_protocol.specs.Labels.{Label, Under, UpTo, at}
-use Rattle.kt_protocol.specs.Lines.{IsIn, here, Sends, Hears, all, top_sent, top_heard}
-use Rattle.kt_protocol.specs.Machine.{Instance, Check, Rollback, Open, Key, Ballot, Up, Down, Post, Message, Ask, Node, Board, State, instance_of, next_label}
+use Rattle.kt_protocol.specs.Logs.{IsIn, here, Sends, Hears, all, top_sent, top_heard}
+use Rattle.kt_protocol.specs.Machine.{Instance, Check, Rollback, Open, Key, Ballot, Up, Down, AppMessage, Message, Ask, Node, Board, State, instance_of}
+use Rattle.kt_protocol.specs.Machine.{next_label}
 use Rattle.kt_protocol.specs.Machine.{same_instance}
 use Rattle.kt_protocol.specs.Steps.{change, pull, push, begin, sifting, sieved, joining, loading, asking, IsCohort}
 use Rattle.kt_protocol.specs.Runs.{AreNeighbours}
 use Rattle.kt_protocol.proofs.Labels.{UpTo-trans, Label-cases, at-here, at-else, Under-UpTo}
-use Rattle.kt_protocol.proofs.Lines.{Falls}
+use Rattle.kt_protocol.proofs.Logs.{Falls}
 use Rattle.kt_protocol.proofs.Streams.{apps, Rising, Rising-map, Rising-sub, Sub-right}
 use Rattle.kt_protocol.proofs.Invariant.{core, a_key, a_member, a_mark, IsMember, Undone, Carried, sent, undone, made, lost, cut_soon, Cover, Calm, NoChild}
 use Rattle.kt_protocol.proofs.Invariant.{Away, Meant, top_of, TokenOf, Pair, Engaged, Local, Trees, Invariant}
@@ -52,9 +54,9 @@ Trees-joined o new f g w = Trees-same (at-map (λ n. n.joined) o new f)
 -- whom a node that joins need not ask
 unasked : {peer : ℕ → ℕ → Bool} (i : Instance) (o q : ℕ) (n nq : Node) (cohort : ℕ → Bool) → IsCohort peer i o n cohort → IsTrue (peer o q)
     → UpTo (top_heard n.perm q) (top_sent nq.perm o) → cohort q ≡ false
-    → (k : ℕ) × (i ≡ Check k) × Cover (Check k) (core nq) o (top_heard n.line q)
-unasked (Check k) o q n nq cohort c t agree e = (k, refl, go (Label-cases (top_heard n.line q) (top_heard n.perm q))) where
-  go : UpTo (top_heard n.line q) (top_heard n.perm q) ⊎ Under (top_heard n.perm q) (top_heard n.line q) → Cover (Check k) (core nq) o (top_heard n.line q)
+    → (k : ℕ) × (i ≡ Check k) × Cover (Check k) (core nq) o (top_heard n.log q)
+unasked (Check k) o q n nq cohort c t agree e = (k, refl, go (Label-cases (top_heard n.log q) (top_heard n.perm q))) where
+  go : UpTo (top_heard n.log q) (top_heard n.perm q) ⊎ Under (top_heard n.perm q) (top_heard n.log q) → Cover (Check k) (core nq) o (top_heard n.log q)
   go (inl u) = inl (UpTo-trans u agree)
   go (inr u) = true-false (c.covers q t u) e
 unasked (Rollback k) o q n nq cohort c t agree e = true-false (c.covers q t tt) e
@@ -77,7 +79,7 @@ step_joins peer near s o x i l z rest cohort t first up opened asked w =
     par : Option Key
     par = Some (a_key x z)
 
-    held : ℕ → List Post
+    held : ℕ → List AppMessage
     held = at x (sieved i l (n.kept x)) n.kept
 
     new : Node
@@ -162,7 +164,7 @@ free-begin i s f = record {
 -- a node begins an instance; `n` is its node before it joins
 step_begun : (peer : ℕ → ℕ → Bool) → AreNeighbours peer → (s : State) (o : ℕ) (i : Instance) (cohort : ℕ → Bool) (n : Node)
     → n.joined ≡ (s.node o).joined → n.said ≡ (s.node o).said
-    → IsFree s.board i (first_ballot None cohort) n → s.board.begun i ≡ false → ((k : ℕ) → i ≡ Rollback k → n.line ≡ n.perm)
+    → IsFree s.board i (first_ballot None cohort) n → s.board.begun i ≡ false → ((k : ℕ) → i ≡ Rollback k → n.log ≡ n.perm)
     → IsCohort peer i o n cohort
     → Local peer s.board o n
     → ((q : ℕ) → IsTrue (peer o q) → Pair s.board o q n (s.node q) ((s.node q).kept o) (s.link o q))
@@ -203,7 +205,7 @@ step_begins peer near s o k cohort up unbegun asked w =
     (w.local o) (λ q u. w.pair o q u) (λ p u. w.pair p o u) w
 
 -- a node that is down loads its permanent checkpoint in a new incarnation
-load-out : {B : Board} {p q : ℕ} {np nq : Node} {kept : List Post} {link : List Message} → np.mode ≡ Down → np.tent ≡ None → np.line ≡ np.perm
+load-out : {B : Board} {p q : ℕ} {np nq : Node} {kept : List AppMessage} {link : List Message} → np.mode ≡ Down → np.tent ≡ None → np.log ≡ np.perm
     → Pair B p q np nq kept link → Pair B p q (loading np) nq kept link
 load-out {B} {p} {q} {np} {nq} {kept} {link} down none cut o = record {
   agree = o.agree;
@@ -221,13 +223,13 @@ load-out {B} {p} {q} {np} {nq} {kept} {link} down none cut o = record {
   meant (Check k) l m = some-none (sym m.0 ∙ none)
   meant (Rollback k) l m = m
 
-cover-load : (i : Instance) (n : Node) (p : ℕ) (top : Label) → n.line ≡ n.perm → n.tent ≡ None → Cover i (core n) p top → Cover i (core (loading n)) p top
+cover-load : (i : Instance) (n : Node) (p : ℕ) (top : Label) → n.log ≡ n.perm → n.tent ≡ None → Cover i (core n) p top → Cover i (core (loading n)) p top
 cover-load (Check k) n p top cut none (inl u) = inl u
 cover-load (Check k) n p top cut none (inr u) = some-none (sym u.0 ∙ none)
 cover-load (Rollback k) n p top cut none (inl u) = inl u
 cover-load (Rollback k) n p top cut none (inr u) = inr (subst (λ t. UpTo (top_heard t p) top) cut u)
 
-load-into : {B : Board} {p q : ℕ} {np nq : Node} {kept : List Post} {link : List Message} → nq.mode ≡ Down → nq.tent ≡ None → nq.line ≡ nq.perm
+load-into : {B : Board} {p q : ℕ} {np nq : Node} {kept : List AppMessage} {link : List Message} → nq.mode ≡ Down → nq.tent ≡ None → nq.log ≡ nq.perm
     → Pair B p q np nq kept link → Pair B p q np (loading nq) [] link
 load-into {B} {p} {q} {np} {nq} {kept} {link} down none cut o = record {
   agree = o.agree;
@@ -236,17 +238,17 @@ load-into {B} {p} {q} {np} {nq} {kept} {link} down none cut o = record {
   asks = o.asks;
   token = λ i b e s. go i b (o.token i b e s);
   votes = o.votes;
-  cover = λ k e s. cover-load (Check k) nq p (top_heard np.line q) cut none (o.cover k e s);
+  cover = λ k e s. cover-load (Check k) nq p (top_heard np.log q) cut none (o.cover k e s);
 } where
   calm : (i : Instance) {c : ℕ} {top : Label} → Calm B i c top kept link → Calm B i c top [] link
   calm (Check k) c = record { none = c.none; behind = tt; low = tt }
   calm (Rollback k) c = record { none = c.none; behind = c.behind; low = λ m h. elim h [ ] }
 
   go : (i : Instance) (b : Ballot) → TokenOf B p q np nq kept link i b → TokenOf B p q np (loading nq) [] link i b
-  go i b t = Token-map (λ a. a) (calm i) (cover-load i nq p (top_of i np.line np.perm q) cut none) t
+  go i b t = Token-map (λ a. a) (calm i) (cover-load i nq p (top_of i np.log np.perm q) cut none) t
 
 pub step_restarts : (peer : ℕ → ℕ → Bool) → AreNeighbours peer → (s : State) (o k : ℕ) (cohort : ℕ → Bool)
-    → (s.node o).mode ≡ Down → (s.node o).tent ≡ None → (s.node o).line ≡ (s.node o).perm → s.board.begun (Rollback k) ≡ false
+    → (s.node o).mode ≡ Down → (s.node o).tent ≡ None → (s.node o).log ≡ (s.node o).perm → s.board.begun (Rollback k) ≡ false
     → IsCohort peer (Rollback k) o (s.node o) cohort → Invariant peer s
     → Invariant peer (begin (Rollback k) (change o (λ n. joining (Rollback k) None cohort (loading n))
     (push o (asking (Rollback k) cohort (loading (s.node o))) s)))

@@ -1,10 +1,12 @@
 -- Messages in order: their labels rise, and an ask flushes the link.
+-- Cited by Answers, Casts, Checks, Cuts, Frames, Grounds, Invariant, Joins, Keeps, Main, Rises, Rows, Starts, Talks,
+--   Trees, Votes; kt_refinement.
 use Rattle.std.proofs.Common.{◌≡◌, ◌≢◌, ◌⊎◌, ℕ, Bool, true, false, if◌then◌else◌, inl, inr, refl, sym, ap, subst, arith, List, [], ◌∷◌, ◌++◌, ◌&&◌, ltb, leb}
 use Rattle.std.proofs.Common.{eqb}
 use Rattle.std.proofs.lemmas.Bool.{ltb-true, leb-true, eqb-true, or_cases, and_parts}
 use Rattle.kt_protocol.specs.Labels.{Label, Under, UpTo, up_to}
-use Rattle.kt_protocol.specs.Lines.{IsIn, here, there}
-use Rattle.kt_protocol.specs.Machine.{Instance, Post, Message, App, Ask}
+use Rattle.kt_protocol.specs.Logs.{IsIn, here, there}
+use Rattle.kt_protocol.specs.Machine.{Instance, AppMessage, Message, App, Ask}
 use Rattle.kt_protocol.specs.Steps.{sieve}
 use Rattle.kt_protocol.proofs.Labels.{Under-UpTo, UpTo-Under, Under-weak}
 
@@ -63,7 +65,7 @@ Sub-in (keep s) (there i) = there (Sub-in s i)
 Sub-in done i = elim i [ ]
 
 -- the underlying messages of a link
-abbrev pub apps : List Message → List Post
+abbrev pub apps : List Message → List AppMessage
 apps [] = []
 apps (App m ∷ link) = m ∷ apps link
 apps (Ask i l c ∷ link) = apps link
@@ -74,33 +76,33 @@ apps-append (App m ∷ xs) ys = ap (λ t. m ∷ t) (apps-append xs ys)
 apps-append (Ask i l c ∷ xs) ys = apps-append xs ys
 
 -- labels rise from low, each message is as C says, and all stand below next
-pub data Rising (C : Post → Type 0) (next : Label) : Label → List Post → Type 0 where
+pub data Rising (C : AppMessage → Type 0) (next : Label) : Label → List AppMessage → Type 0 where
   ends : {low : Label} → Under low next → Rising C next low []
-  over : {low : Label} (m : Post) {ms : List Post} → Under low m.label → C m → Rising C next m.label ms → Rising C next low (m ∷ ms)
+  over : {low : Label} (m : AppMessage) {ms : List AppMessage} → Under low m.label → C m → Rising C next m.label ms → Rising C next low (m ∷ ms)
 
-pub Rising-map : {C D : Post → Type 0} {next next' low : Label} {ms : List Post} → UpTo next next'
-    → ((m : Post) → IsIn m ms → C m → D m) → Rising C next low ms → Rising D next' low ms
+pub Rising-map : {C D : AppMessage → Type 0} {next next' low : Label} {ms : List AppMessage} → UpTo next next'
+    → ((m : AppMessage) → IsIn m ms → C m → D m) → Rising C next low ms → Rising D next' low ms
 Rising-map u f (ends v) = ends (Under-UpTo v u)
 Rising-map u f (over m v c r) = over m v (f m here c) (Rising-map u (λ k i. f k (there i)) r)
 
-pub Rising-low : {C : Post → Type 0} {next low low' : Label} {ms : List Post} → UpTo low' low → Rising C next low ms
+pub Rising-low : {C : AppMessage → Type 0} {next low low' : Label} {ms : List AppMessage} → UpTo low' low → Rising C next low ms
     → Rising C next low' ms
 Rising-low u (ends v) = ends (UpTo-Under u v)
 Rising-low u (over m v c r) = over m (UpTo-Under u v) c r
 
-pub Rising-sub : {C : Post → Type 0} {next low : Label} {ks ms : List Post} → Sub ks ms → Rising C next low ms
+pub Rising-sub : {C : AppMessage → Type 0} {next low : Label} {ks ms : List AppMessage} → Sub ks ms → Rising C next low ms
     → Rising C next low ks
 Rising-sub done r = r
 Rising-sub (skip s) (over m v c r) = Rising-sub s (Rising-low (Under-weak v) r)
 Rising-sub (keep s) (over m v c r) = over m v c (Rising-sub s r)
 
-pub Rising-push : {C : Post → Type 0} {next next' low : Label} {ms : List Post} (m : Post) → m.label ≡ next
+pub Rising-push : {C : AppMessage → Type 0} {next next' low : Label} {ms : List AppMessage} (m : AppMessage) → m.label ≡ next
     → Under next next' → C m → Rising C next low ms → Rising C next' low (ms ++ m ∷ [])
 Rising-push {next' = next'} m e u c (ends {low} v) =
     over m (subst (Under low) (sym e) v) c (ends (subst (λ l. Under l next') (sym e) u))
 Rising-push m e u c (over k v d r) = over k v d (Rising-push m e u c r)
 
-pub Rising-head : {C : Post → Type 0} {next low : Label} {m : Post} {ms : List Post} → Rising C next low (m ∷ ms)
+pub Rising-head : {C : AppMessage → Type 0} {next low : Label} {m : AppMessage} {ms : List AppMessage} → Rising C next low (m ∷ ms)
     → Under low m.label × C m × Rising C next m.label ms
 Rising-head (over m v c r) = (v, c, r)
 
@@ -115,7 +117,7 @@ up_to-true a b e = go (or_cases (ltb a.life b.life) (eqb a.life b.life && leb a.
       omega arith
 
 -- what a sieve leaves is part of what was there, up to the label
-pub sieve-part : (l : Label) (ks : List Post) → Sub (sieve l ks) ks
+pub sieve-part : (l : Label) (ks : List AppMessage) → Sub (sieve l ks) ks
 unfolding sieve
 sieve-part l [] = done
 sieve-part l (m ∷ ks) = go (up_to m.label l) (sieve-part l ks) where
@@ -123,7 +125,7 @@ sieve-part l (m ∷ ks) = go (up_to m.label l) (sieve-part l ks) where
   go true s = keep s
   go false s = skip s
 
-pub sieve-in : (l : Label) (ks : List Post) (m : Post) → IsIn m (sieve l ks) → UpTo m.label l
+pub sieve-in : (l : Label) (ks : List AppMessage) (m : AppMessage) → IsIn m (sieve l ks) → UpTo m.label l
 unfolding sieve
 sieve-in l [] m i = elim i [ ]
 sieve-in l (k ∷ ks) m i = go (up_to k.label l) refl (sieve-in l ks m) i where
@@ -131,7 +133,7 @@ sieve-in l (k ∷ ks) m i = go (up_to k.label l) refl (sieve-in l ks m) i where
       → IsIn m (if t then k ∷ sieve l ks else sieve l ks) → UpTo m.label l
   go true e old j = pick (in-cons j) where
     pick : (m ≡ k) ⊎ IsIn m (sieve l ks) → UpTo m.label l
-    pick (inl same) = subst (λ (n : Post). UpTo n.label l) (sym same) (up_to-true k.label l e)
+    pick (inl same) = subst (λ (n : AppMessage). UpTo n.label l) (sym same) (up_to-true k.label l e)
     pick (inr rest) = old rest
   go false e old j = old j
 
@@ -156,6 +158,6 @@ pub Asked-map : {i : Instance} {c : ℕ} {top : Label} {Behind Past : List Messa
 Asked-map f (front {rest} none b) = front none (f rest b)
 Asked-map f (later ne a) = later ne (Asked-map f a)
 
-pub Asked-app : {i : Instance} {c : ℕ} {top : Label} {Behind : List Message → Type 0} {m : Post} {rest : List Message}
+pub Asked-app : {i : Instance} {c : ℕ} {top : Label} {Behind : List Message → Type 0} {m : AppMessage} {rest : List Message}
     → Asked i c top Behind (App m ∷ rest) → Asked i c top Behind rest
 Asked-app (later ne a) = a

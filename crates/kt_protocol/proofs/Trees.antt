@@ -1,7 +1,8 @@
 -- The trees of those who joined an instance: they grow, and where the root said yes all said yes.
+-- Cited by Casts, Checks, Rises, Starts.
 use Rattle.std.proofs.Common.{◌≡◌, ◌⊎◌, ℕ, Bool, IsTrue, List, ◌∷◌, Option, Some, None, inl, inr, refl, sym, ap, subst, ◌∙◌}
 use Rattle.kt_protocol.specs.Labels.{at}
-use Rattle.kt_protocol.specs.Lines.{IsIn, here, there}
+use Rattle.kt_protocol.specs.Logs.{IsIn, here, there}
 use Rattle.kt_protocol.specs.Machine.{Instance, Open, Yes, Key, Member, Mark, Board}
 use Rattle.kt_protocol.proofs.Labels.{at-both, at-here}
 use Rattle.kt_protocol.proofs.Streams.{in-cons}

@@ -1,9 +1,10 @@
 -- Votes counted, and what another ballot leaves as it was.
+-- Cited by Casts, Main, Rises.
 use Rattle.std.proofs.Common.{◌≡◌, ◌≢◌, ◌⊎◌, ℕ, Bool, true, false, not, ◌||◌, IsTrue, List, Some, inl, inr, refl, sym, ap, subst, ◌∙◌}
 use Rattle.std.proofs.lemmas.Bool.{cases_eq, or_left}
 use Rattle.kt_protocol.specs.Labels.{Label}
-use Rattle.kt_protocol.specs.Lines.{IsIn, top_heard}
-use Rattle.kt_protocol.specs.Machine.{Instance, Check, Rollback, Open, Ballot, Within, Post, Message, Ask, Vote, Mark, Node, Board, State, instance_of}
+use Rattle.kt_protocol.specs.Logs.{IsIn, top_heard}
+use Rattle.kt_protocol.specs.Machine.{Instance, Check, Rollback, Open, Ballot, Within, AppMessage, Message, Ask, Vote, Mark, Node, Board, State, instance_of}
 use Rattle.kt_protocol.specs.Machine.{next_label}
 use Rattle.kt_protocol.specs.Steps.{change, counted, counting, IsAgreed}
 use Rattle.kt_protocol.specs.Runs.{AreNeighbours}
@@ -43,11 +44,12 @@ cover-vote i b c n vs ms (Check k) p top e v = v
 cover-vote i b c n vs ms (Rollback k) p top e (inl u) = inl (sym (ap instance_of e) ∙ u)
 cover-vote i b c n vs ms (Rollback k) p top e (inr u) = inr u
 
-pub vote-out : {B : Board} {p q : ℕ} {np nq : Node} {kept : List Post} {link : List Message} (i : Instance) (b c : Ballot) (vs : List Vote) (ms : List Mark)
+pub vote-out : {B : Board} {p q : ℕ} {np nq : Node} {kept : List AppMessage} {link : List Message} (i : Instance) (b c : Ballot) (vs : List Vote)
+    (ms : List Mark)
     → np.mode ≡ Within i b → b.parent ≡ c.parent
     → ((j : Instance) (l : Label) (z : ℕ) → IsIn (Ask j l z) link → B.verdict j ≡ Open → IsIn (a_mark j z) ms → ⊥)
     → (Standing B i np.tent → TokenOf B p q (voter i c vs ms np) nq kept link i c)
-    → ((k : ℕ) → np.tent ≡ Some k → IsIn (a_mark (Check k) np.life) ms → Cover (Check k) (core nq) p (top_heard np.line q))
+    → ((k : ℕ) → np.tent ≡ Some k → IsIn (a_mark (Check k) np.life) ms → Cover (Check k) (core nq) p (top_heard np.log q))
     → Pair B p q np nq kept link → Pair B p q (voter i c vs ms np) nq kept link
 vote-out {B} {p} {q} {np} {nq} {kept} {link} i b c vs ms e par unsaid token cover o = record {
   agree = o.agree;
@@ -66,7 +68,8 @@ vote-out {B} {p} {q} {np} {nq} {kept} {link} i b c vs ms e par unsaid token cove
   new : Node
   new = voter i c vs ms np
 
-pub vote-into : {B : Board} {p q : ℕ} {np nq : Node} {kept : List Post} {link : List Message} (i : Instance) (b c : Ballot) (vs : List Vote) (ms : List Mark)
+pub vote-into : {B : Board} {p q : ℕ} {np nq : Node} {kept : List AppMessage} {link : List Message} (i : Instance) (b c : Ballot) (vs : List Vote)
+    (ms : List Mark)
     → nq.mode ≡ Within i b
     → ((j : Instance) (d : Ballot) → np.mode ≡ Within j d → Standing B j np.tent → TokenOf B p q np nq kept link j d
     → TokenOf B p q np (voter i c vs ms nq) kept link j d)
@@ -83,7 +86,7 @@ vote-into {B} {p} {q} {np} {nq} i b c vs ms e token votes o = record {
   asks = o.asks;
   token = λ j d g st. token j d g st (o.token j d g st);
   votes = votes;
-  cover = λ k g s. cover-vote i b c nq vs ms (Check k) p (top_heard np.line q) e (o.cover k g s);
+  cover = λ k g s. cover-vote i b c nq vs ms (Check k) p (top_heard np.log q) e (o.cover k g s);
 }
 
 pub vote-local : {peer : ℕ → ℕ → Bool} {B : Board} {o : ℕ} {n : Node} (i : Instance) (b c : Ballot) (vs : List Vote) (ms : List Mark)
@@ -162,7 +165,7 @@ step_counts peer near s o q i b y e waits t v w =
     into p j d (asked a k none f) = asked a k none f
     into p j d (waiting a k none f) = waiting a k none f
     into p j d (voted z k only g r h) = voted z k only
-        (λ f. (cover-vote i b c n n.votes n.said j p (top_of j (s.node p).line (s.node p).perm o) e (g f).0, (g f).1)) r
+        (λ f. (cover-vote i b c n n.votes n.said j p (top_of j (s.node p).log (s.node p).perm o) e (g f).0, (g f).1)) r
         (λ x f par. ap (λ t. t.voted) (sym (voting-ballot f)) ∙ h b (e ∙ ap (λ j. Within j b) (voting-instance f))
         (ap (λ t. t.parent) (voting-ballot f) ∙ par))
 
@@ -173,9 +176,9 @@ standing-open {n = n} (Check k) b e g w = w.present (Check k) (b.parent, (w.ball
 standing-open (Rollback k) b e g w = λ f. open-no g f
 
 -- a vote that was counted, and no no
-pub settled : {B : Board} {p q : ℕ} (np nq : Node) {kept : List Post} {link : List Message} (i : Instance) (b : Ballot)
+pub settled : {B : Board} {p q : ℕ} (np nq : Node) {kept : List AppMessage} {link : List Message} (i : Instance) (b : Ballot)
     → b.awaited q ≡ false → b.refused ≡ false → TokenOf B p q np nq kept link i b
-    → Calm B i np.life (top_of i np.line np.perm q) kept link × Cover i (core nq) p (top_of i np.line np.perm q)
+    → Calm B i np.life (top_of i np.log np.perm q) kept link × Cover i (core nq) p (top_of i np.log np.perm q)
     × ChildrenSaid nq.joined nq.said i (a_key p np.life)
 settled np nq i b a r (asked w k none d) = true-false w a
 settled np nq i b a r (waiting w k none d) = true-false w a

@@ -1,7 +1,8 @@
 -- What the theorem says of the states that are reached. Nothing here names a ballot or a vote.
+-- Cited by Consequences, Examples, Main, laws.rt; kt_refinement.
 use Rattle.std.specs.Prelude.{◌≡◌, ℕ, Bool, true, false, List, [], ◌∷◌, ⊤}
 use Rattle.kt_protocol.specs.Labels.{Label}
-use Rattle.kt_protocol.specs.Lines.{IsIn, Act, Sends, Hears}
+use Rattle.kt_protocol.specs.Logs.{IsIn, Act, Sends, Hears}
 use Rattle.kt_protocol.specs.Machine.{Check, Rollback, Yes, Mode, Up, Within, Down, Message, Ask, State}
 use Rattle.kt_protocol.specs.Runs.{AreNeighbours, IsBeginning, Run}
 
@@ -15,7 +16,8 @@ abbrev pub IsRolling : Mode → Type 0
 IsRolling (Within (Rollback k) _) = ⊤
 IsRolling _ = ⊥
 
--- the node is up or held
+-- the node is up or held; kt_model says the same of the world's modes (`is_steady_mode` of its Headline), and
+-- `standing-phase` of kt_refinement joins the two
 abbrev pub IsStanding : Mode → Type 0
 IsStanding Up = ⊤
 IsStanding (Within (Check k) _) = ⊤
@@ -45,7 +47,7 @@ pub record MustRoll (s t : State) (o : ℕ) : Type 0 where
   pub taken : t.link asker o ≡ rest
   pub by : ℕ
   pub under : Label
-  pub heard : IsIn (Hears by asker under) (s.node o).line
+  pub heard : IsIn (Hears by asker under) (s.node o).log
   pub lacks : IsIn (Sends by o under) (s.node asker).perm → ⊥
 
 -- the step from s to t takes an ask of a check off a link to o, and the asker heard what o sent and remembers, and
@@ -60,8 +62,8 @@ pub record MustHold (s t : State) (o : ℕ) : Type 0 where
   pub taken : t.link asker o ≡ rest
   pub by : ℕ
   pub under : Label
-  pub heard : IsIn (Hears by o under) (s.node asker).line
-  pub sent : IsIn (Sends by asker under) (s.node o).line
+  pub heard : IsIn (Hears by o under) (s.node asker).log
+  pub sent : IsIn (Sends by asker under) (s.node o).log
   pub lacks : IsIn (Sends by asker under) (s.node o).perm → ⊥
 
 -- why o, which was up, is held: it began a check of its own, or an ask made it
@@ -69,17 +71,17 @@ pub data WhyHeld (s t : State) (o : ℕ) : Type 0 where
   began : (k : ℕ) → s.board.begun (Check k) ≡ false → t.board.begun (Check k) ≡ true → WhyHeld s t o
   forced : MustHold s t o → WhyHeld s t o
 
--- a run in which a rollback gets Yes and cuts a line: a node remembers an act, and at the end of the run it is up and
+-- a run in which a rollback gets Yes and cuts a log: a node remembers an act, and at the end of the run it is up and
 -- remembers nothing
-pub record CutsALine (peer : ℕ → ℕ → Bool) : Type 0 where
+pub record CutsALog (peer : ℕ → ℕ → Bool) : Type 0 where
   pub before : State
   pub after : State
   pub reached : IsReached peer before
   pub run : Run peer before after
   pub node : ℕ
   pub act : Act
-  pub remembered : IsIn act (before.node node).line
-  pub forgotten : (after.node node).line ≡ []
+  pub remembered : IsIn act (before.node node).log
+  pub forgotten : (after.node node).log ≡ []
   pub up : (after.node node).mode ≡ Up
   pub number : ℕ
   pub decided : after.board.verdict (Rollback number) ≡ Yes

@@ -1,5 +1,5 @@
 pub mod Labels
-pub mod Lines
+pub mod Logs
 pub mod Machine
 pub mod Steps
 pub mod Runs

@@ -1,7 +1,10 @@
 -- The state of the machine: n nodes, the links between them, and the board of verdicts.
+-- Cited by Answers, Cases, Casts, Checks, Consequences, Cuts, Examples, Frames, Grounds, Invariant, Joins, Keeps,
+--   Main, Rises, Rows, Starts, Streams, Talks, Trees, Verdicts, Votes, laws.rt, specs/Laws, specs/Rows and 2 more;
+--   kt_refinement.
 use Rattle.std.specs.Prelude.{ℕ, suc, eqb, Bool, false, if◌then◌else◌, List, Option, Some, None}
 use Rattle.kt_protocol.specs.Labels.{Label}
-use Rattle.kt_protocol.specs.Lines.{Act}
+use Rattle.kt_protocol.specs.Logs.{Act}
 
 -- checks and rollbacks are numbered apart
 pub data Instance : Type 0 where
@@ -38,14 +41,14 @@ pub data Mode : Type 0 where
   Down : Mode
 
 -- an underlying message: the act that sent it, and its label
-pub record Post : Type 0 where
+pub record AppMessage : Type 0 where
   pub by : ℕ
   pub label : Label
 
 -- what stands on a link: an underlying message, or an ask of an instance with a label and the asker's
 -- incarnation
 pub data Message : Type 0 where
-  App : Post → Message
+  App : AppMessage → Message
   Ask : Instance → Label → ℕ → Message
 
 -- a vote in an instance on an ask of this key
@@ -65,17 +68,17 @@ pub record Mark : Type 0 where
   pub instance : Instance
   pub life : ℕ
 
--- a node: `line` is what it remembers, `perm` the acts of its permanent checkpoint, `tent` the check that is not
--- decided and for which a tentative checkpoint is stored, whose acts are those of the line. A node's votes
+-- a node: `log` is what it remembers, `perm` the acts of its permanent checkpoint, `tent` the check that is not
+-- decided and for which a tentative checkpoint is stored, whose acts are those of the log. A node's votes
 -- stay: one that is lost is one that is never counted. No rule reads `joined` and `said`.
 pub record Node : Type 0 where
   pub mode : Mode
   pub life : ℕ
   pub count : ℕ
-  pub line : List Act
+  pub log : List Act
   pub perm : List Act
   pub tent : Option ℕ
-  pub kept : ℕ → List Post
+  pub kept : ℕ → List AppMessage
   pub votes : List Vote
   pub joined : List Member
   pub said : List Mark

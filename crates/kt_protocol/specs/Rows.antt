@@ -1,8 +1,9 @@
 -- The rows of the table of arrivals for the two asks, as functions: the tests from the top, the first that stands
 -- decides. The ask stands at the front of the link from x to o.
+-- Cited by Rows, laws.rt.
 use Rattle.std.specs.Prelude.{ℕ, eqb, Bool, true, false, not, ◌&&◌, if◌then◌else◌, List, Option, Some, None}
 use Rattle.kt_protocol.specs.Labels.{Label, up_to}
-use Rattle.kt_protocol.specs.Lines.{top_sent, top_heard}
+use Rattle.kt_protocol.specs.Logs.{top_sent, top_heard}
 use Rattle.kt_protocol.specs.Machine.{Instance, key_of, Check, Rollback, Verdict, Open, Mode, Up, Within, Down, Message}
 use Rattle.kt_protocol.specs.Machine.{Node, State}
 use Rattle.kt_protocol.specs.Steps.{change, pull, push, sifting, answering, joining, asking}
@@ -43,7 +44,7 @@ roll_in_mode peer k o x a s mode = answer_ask (Rollback k) o x a false s
 abbrev pub roll_row : (ℕ → ℕ → Bool) → ℕ → ℕ → ℕ → Asking → State → State
 roll_row peer k o x a s =
     if not (is_open (s.board.verdict (Rollback k))) then answer_ask (Rollback k) o x a false s
-    else if up_to (top_heard (s.node o).line x) a.label then answer_ask (Rollback k) o x a true s
+    else if up_to (top_heard (s.node o).log x) a.label then answer_ask (Rollback k) o x a true s
     else roll_in_mode peer k o x a s (s.node o).mode
 
 -- the ask of a rollback arrives
@@ -53,7 +54,7 @@ hear_roll_ask peer k o x a s mode = roll_row peer k o x a s
 
 -- whom a check asks: the neighbours of whom the node heard something since its permanent checkpoint
 abbrev pub check_cohort : (ℕ → ℕ → Bool) → ℕ → Node → ℕ → Bool
-check_cohort peer o n q = peer o q && not (up_to (top_heard n.line q) (top_heard n.perm q))
+check_cohort peer o n q = peer o q && not (up_to (top_heard n.log q) (top_heard n.perm q))
 
 -- the label is at least that of the first message to the asker since the permanent checkpoint, if there is one
 abbrev pub reaches : Option Label → Label → Bool
@@ -68,10 +69,10 @@ holds (Some j) k = eqb j k
 -- the ask of a check, where its label is above what the permanent checkpoint sent
 abbrev pub check_in_mode : (ℕ → ℕ → Bool) → ℕ → ℕ → ℕ → Asking → Option Label → State → Mode → State
 check_in_mode peer k o x a first s Up =
-    if reaches first a.label && up_to a.label (top_sent (s.node o).line x)
+    if reaches first a.label && up_to a.label (top_sent (s.node o).log x)
     then join_by_ask (Check k) o x a (check_cohort peer o (s.node o)) s else answer_ask (Check k) o x a false s
 check_in_mode peer k o x a first s mode =
-    answer_ask (Check k) o x a (holds (s.node o).tent k && up_to a.label (top_sent (s.node o).line x)) s
+    answer_ask (Check k) o x a (holds (s.node o).tent k && up_to a.label (top_sent (s.node o).log x)) s
 
 -- the row of the ask of a check at a node that is not down; `first` is the label of its first message to x since its
 -- permanent checkpoint

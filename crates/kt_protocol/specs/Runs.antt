@@ -1,7 +1,9 @@
 -- Runs of the machine from a beginning.
+-- Cited by Answers, Cases, Casts, Checks, Consequences, Cuts, Examples, Frames, Grounds, Keeps, Main, Rises, Starts,
+--   Talks, Votes, specs/Laws; kt_refinement.
 use Rattle.std.specs.Prelude.{◌≡◌, ◌≢◌, ℕ, Bool, false, IsTrue, [], ◌∷◌, None}
 use Rattle.kt_protocol.specs.Labels.{Label, Under, UpTo}
-use Rattle.kt_protocol.specs.Lines.{Resumes, top_sent, top_heard}
+use Rattle.kt_protocol.specs.Logs.{Resumes, top_sent, top_heard}
 use Rattle.kt_protocol.specs.Machine.{Instance, Up, Down, Open, Node, State, next_label}
 use Rattle.kt_protocol.specs.Steps.{Step}
 
@@ -13,7 +15,7 @@ pub record AreNeighbours (peer : ℕ → ℕ → Bool) : Type 0 where
 -- a node at the beginning: up, with nothing remembered; its incarnation may be any
 pub record IsNew (n : Node) : Type 0 where
   pub mode : n.mode ≡ Up
-  pub line : n.line ≡ []
+  pub log : n.log ≡ []
   pub perm : n.perm ≡ []
   pub tent : n.tent ≡ None
   pub kept : (x : ℕ) → n.kept x ≡ []
@@ -21,13 +23,14 @@ pub record IsNew (n : Node) : Type 0 where
   pub joined : n.joined ≡ []
   pub said : n.said ≡ []
 
--- the node o is resumed: it is down, with its permanent checkpoint, of whose acts, all up to this number, it has the last
+-- the node o is resumed: it is down, with its permanent checkpoint, of whose acts, all up to this number, it has the
+-- last
 -- labels; none that it sent is of a later incarnation
 pub record IsResumed (first o : ℕ) (n : Node) : Type 0 where
   pub mode : n.mode ≡ Down
   pub sent : ℕ → Label
   pub heard : ℕ → Label
-  pub line : n.line ≡ Resumes o first sent heard ∷ []
+  pub log : n.log ≡ Resumes o first sent heard ∷ []
   pub perm : n.perm ≡ Resumes o first sent heard ∷ []
   pub room : (q : ℕ) → Under (sent q) (next_label n)
   pub tent : n.tent ≡ None
@@ -41,7 +44,8 @@ pub data IsFirst (first o : ℕ) (n : Node) : Type 0 where
   new : IsNew n → IsFirst first o n
   resumed : IsResumed first o n → IsFirst first o n
 
--- each node is new or resumed, all links are empty, nobody is in an instance, whatever was begun and decided before; and
+-- each node is new or resumed, all links are empty, nobody is in an instance, whatever was begun and decided before;
+-- and
 -- what a permanent checkpoint heard, the sender's has sent
 pub record IsBeginning (peer : ℕ → ℕ → Bool) (s : State) : Type 0 where
   pub first : ℕ

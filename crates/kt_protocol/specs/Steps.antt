@@ -1,12 +1,15 @@
 -- The steps of the machine: what a node may do, when, and what becomes of the state. The machine may do all that the
 -- tables of steps and arrivals allow, and more. A vote or a verdict has no message of its own that must be taken off a
 -- link. A message may be kept or dropped, a no said, an open instance given up at any time.
+-- Cited by Answers, Cases, Casts, Checks, Consequences, Cuts, Examples, Grounds, Invariant, Joins, Keeps, Main,
+--   Rises, Rows, Starts, Streams, Talks, Verdicts, Votes, laws.rt, specs/Rows, specs/Runs; kt_refinement.
 use Rattle.std.specs.Prelude.{◌≡◌, ◌⊎◌, ℕ, suc, eqb, Bool, true, false, not, ◌||◌, if◌then◌else◌, IsTrue, List, [], ◌∷◌}
 use Rattle.std.specs.Prelude.{◌++◌, Option, Some, None, ⊤}
 use Rattle.kt_protocol.specs.Labels.{Label, Under, UpTo, up_to, at}
-use Rattle.kt_protocol.specs.Lines.{IsIn, Act, Sends, Hears, top_sent, top_heard}
+use Rattle.kt_protocol.specs.Logs.{IsIn, Act, Sends, Hears, top_sent, top_heard}
 use Rattle.kt_protocol.specs.Machine.{Instance, Check, Rollback, Verdict, Open, Yes, No, Key, key_of, Ballot, Up}
-use Rattle.kt_protocol.specs.Machine.{Within, Down, Post, Message, App, Ask, Node, State, at_instance, instance_of}
+use Rattle.kt_protocol.specs.Machine.{Within, Down, AppMessage, Message, App, Ask, Node, State, at_instance}
+use Rattle.kt_protocol.specs.Machine.{instance_of}
 use Rattle.kt_protocol.specs.Machine.{next_label}
 
 -- the owner's node becomes another
@@ -35,23 +38,23 @@ only y m q = if eqb q y then m ∷ [] else []
 
 -- an act of the node sends the next message to y
 abbrev pub sending : ℕ → ℕ → Node → Node
-sending by y n = record n { count = suc n.count; line = Sends by y (next_label n) ∷ n.line }
+sending by y n = record n { count = suc n.count; log = Sends by y (next_label n) ∷ n.log }
 
 -- an act of the node hears the message from x
-abbrev pub hearing : ℕ → Post → Node → Node
-hearing x m n = record n { line = Hears m.by x m.label ∷ n.line }
+abbrev pub hearing : ℕ → AppMessage → Node → Node
+hearing x m n = record n { log = Hears m.by x m.label ∷ n.log }
 
 -- what the node keeps from x becomes this
-abbrev pub keeping : ℕ → List Post → Node → Node
+abbrev pub keeping : ℕ → List AppMessage → Node → Node
 keeping x ks n = record n { kept = at x ks n.kept }
 
 -- the kept messages up to this label
-unfoldable pub sieve : Label → List Post → List Post
+unfoldable pub sieve : Label → List AppMessage → List AppMessage
 sieve l [] = []
 sieve l (m ∷ ks) = if up_to m.label l then m ∷ sieve l ks else sieve l ks
 
 -- an ask of a rollback drops what is kept above its label, one of a check drops nothing
-abbrev pub sieved : Instance → Label → List Post → List Post
+abbrev pub sieved : Instance → Label → List AppMessage → List AppMessage
 sieved (Check k) l ks = ks
 sieved (Rollback k) l ks = sieve l ks
 
@@ -79,7 +82,7 @@ joining i parent cohort n = record n {
 -- the label with which the node asks q: the last label heard from q, or the last sent to q before the permanent
 -- checkpoint
 abbrev pub ask_label : Instance → Node → ℕ → Label
-ask_label (Check k) n q = top_heard n.line q
+ask_label (Check k) n q = top_heard n.log q
 ask_label (Rollback k) n q = top_sent n.perm q
 
 -- the asks of the cohort
@@ -89,7 +92,7 @@ asking i cohort n q = if cohort q then Ask i (ask_label i n q) n.life ∷ [] els
 -- whom the node has to ask: all neighbours in a rollback; in a check those of whom it heard something since its
 -- permanent checkpoint
 abbrev pub MustAsk : Instance → Node → ℕ → Type 0
-MustAsk (Check k) n q = Under (top_heard n.perm q) (top_heard n.line q)
+MustAsk (Check k) n q = Under (top_heard n.perm q) (top_heard n.log q)
 MustAsk (Rollback k) n q = ⊤
 
 -- the cohort: neighbours, and at least those whom the node has to ask
@@ -101,13 +104,13 @@ pub record IsCohort (peer : ℕ → ℕ → Bool) (i : Instance) (o : ℕ) (n : 
 -- before its permanent checkpoint
 abbrev pub MustJoin : Instance → Node → ℕ → Label → Type 0
 MustJoin (Check k) n x l = Under (top_sent n.perm x) l
-MustJoin (Rollback k) n x l = Under l (top_heard n.line x)
+MustJoin (Rollback k) n x l = Under l (top_heard n.log x)
 
 -- the ask is answered yes at once: its permanent checkpoint holds what was heard, or its tentative one of this very
 -- check does; or it rolls back in this very instance, or heard nothing above the label
 abbrev pub MayAgree : Instance → Node → ℕ → Label → Type 0
-MayAgree (Check k) n x l = UpTo l (top_sent n.perm x) ⊎ (n.tent ≡ Some k × UpTo l (top_sent n.line x))
-MayAgree (Rollback k) n x l = (instance_of n.mode ≡ Some (Rollback k)) ⊎ UpTo (top_heard n.line x) l
+MayAgree (Check k) n x l = UpTo l (top_sent n.perm x) ⊎ (n.tent ≡ Some k × UpTo l (top_sent n.log x))
+MayAgree (Rollback k) n x l = (instance_of n.mode ≡ Some (Rollback k)) ⊎ UpTo (top_heard n.log x) l
 
 -- a vote of q is counted
 abbrev pub counted : ℕ → Bool → Ballot → Ballot
@@ -139,20 +142,20 @@ abbrev pub rising : Node → Node
 rising n = record n { mode = Up }
 
 -- no message is kept
-abbrev pub nothing_kept : ℕ → List Post
+abbrev pub nothing_kept : ℕ → List AppMessage
 nothing_kept x = []
 
--- the node is down, with the line that it has
+-- the node is down, with the log that it has
 abbrev pub falling : Node → Node
 falling n = record n { mode = Down; kept = nothing_kept }
 
--- the line is cut to the permanent checkpoint
+-- the log is cut to the permanent checkpoint
 abbrev pub cutting : Node → Node
-cutting n = record n { line = n.perm }
+cutting n = record n { log = n.perm }
 
 -- the permanent checkpoint is loaded in a new incarnation
 abbrev pub loading : Node → Node
-loading n = record n { life = suc n.life; count = 0; line = n.perm; kept = nothing_kept }
+loading n = record n { life = suc n.life; count = 0; log = n.perm; kept = nothing_kept }
 
 -- what a decided check leaves of a node's tentative checkpoint
 abbrev pub released : ℕ → Option ℕ → Option ℕ
@@ -162,7 +165,7 @@ released k (Some j) = if eqb j k then None else Some j
 -- the permanent checkpoint once this check has Yes
 abbrev pub promoted : ℕ → Option ℕ → Node → List Act
 promoted k None n = n.perm
-promoted k (Some j) n = if eqb j k then n.line else n.perm
+promoted k (Some j) n = if eqb j k then n.log else n.perm
 
 -- Yes on a check stands for every node at once, before the node learns of it: its tentative checkpoint is the
 -- permanent one
@@ -182,18 +185,18 @@ pub data Step (peer : ℕ → ℕ → Bool) (s : State) : State → Type 0 where
       → Step peer s (change o (sending by y)
       (push o (only y (App record { by = by; label = next_label (s.node o) })) s))
   -- a message from x is heard
-  hears : (o x : ℕ) (m : Post) (rest : List Message) → IsTrue (peer x o) → (s.node o).mode ≡ Up
+  hears : (o x : ℕ) (m : AppMessage) (rest : List Message) → IsTrue (peer x o) → (s.node o).mode ≡ Up
       → (s.node o).kept x ≡ [] → s.link x o ≡ App m ∷ rest
       → Step peer s (change o (hearing x m) (pull x o rest s))
   -- a message from x is put behind what is kept
-  keeps : (o x : ℕ) (m : Post) (rest : List Message) → IsTrue (peer x o) → s.link x o ≡ App m ∷ rest
+  keeps : (o x : ℕ) (m : AppMessage) (rest : List Message) → IsTrue (peer x o) → s.link x o ≡ App m ∷ rest
       → Step peer s (change o (λ n. keeping x (n.kept x ++ m ∷ []) n) (pull x o rest s))
   -- the first kept message from x is heard
-  takes : (o x : ℕ) (m : Post) (ks : List Post) → IsTrue (peer x o) → (s.node o).mode ≡ Up
+  takes : (o x : ℕ) (m : AppMessage) (ks : List AppMessage) → IsTrue (peer x o) → (s.node o).mode ≡ Up
       → (s.node o).kept x ≡ m ∷ ks
       → Step peer s (change o (λ n. hearing x m (keeping x ks n)) s)
   -- a message is dropped
-  drops : (o x : ℕ) (m : Post) (rest : List Message) → IsTrue (peer x o) → s.link x o ≡ App m ∷ rest
+  drops : (o x : ℕ) (m : AppMessage) (rest : List Message) → IsTrue (peer x o) → s.link x o ≡ App m ∷ rest
       → Step peer s (pull x o rest s)
   -- an ask is dropped
   ignores : (o x : ℕ) (i : Instance) (l : Label) (c : ℕ) (rest : List Message) → IsTrue (peer x o)
@@ -220,7 +223,7 @@ pub data Step (peer : ℕ → ℕ → Bool) (s : State) : State → Type 0 where
       (push o (asking (Check k) cohort (s.node o)) s)))
   -- a node that is down begins a rollback, in a new incarnation, from its permanent checkpoint
   restarts : (o k : ℕ) (cohort : ℕ → Bool) → (s.node o).mode ≡ Down → (s.node o).tent ≡ None
-      → (s.node o).line ≡ (s.node o).perm → s.board.begun (Rollback k) ≡ false
+      → (s.node o).log ≡ (s.node o).perm → s.board.begun (Rollback k) ≡ false
       → IsCohort peer (Rollback k) o (s.node o) cohort
       → Step peer s (begin (Rollback k) (change o (λ n. joining (Rollback k) None cohort (loading n))
       (push o (asking (Rollback k) cohort (loading (s.node o))) s)))

@@ -1,10 +1,11 @@
 //! The theorem, each law the contract of a function with nothing to do.
+//! Cited by no other file of crates/.
 
 ghost use Rattle.std.specs.Prelude.{◌≡◌, ℕ, Bool, IsTrue, ◌∷◌, Option};
 ghost use Rattle.kt_protocol.specs.Labels.{Label};
-ghost use Rattle.kt_protocol.specs.Laws.{ChecksWhileDown, CutsALine, IsHeld, IsReached, IsRolling, IsSteady, MustRoll};
+ghost use Rattle.kt_protocol.specs.Laws.{ChecksWhileDown, CutsALog, IsHeld, IsReached, IsRolling, IsSteady, MustRoll};
 ghost use Rattle.kt_protocol.specs.Laws.{WhyHeld};
-ghost use Rattle.kt_protocol.specs.Lines.{IsIn, Hears, Sends};
+ghost use Rattle.kt_protocol.specs.Logs.{IsIn, Hears, Sends};
 ghost use Rattle.kt_protocol.specs.Machine.{Ask, Check, Rollback, State, Up};
 ghost use Rattle.kt_protocol.specs.Rows.{Asking, hear_check_ask, hear_roll_ask};
 ghost use Rattle.kt_protocol.specs.Steps.{Step};
@@ -19,7 +20,7 @@ pub fn permanent_checkpoints_agree()
 /// While no node is down or rolling, each act that a node remembers heard one that its node remembers.
 pub fn nothing_remembered_is_undone()
     ensures { (peer : ℕ → ℕ → Bool) (s : State) → IsReached peer s → IsSteady s → (p q by : ℕ) (l : Label)
-        → IsIn (Hears by p l) (s.node q).line → IsIn (Sends by q l) (s.node p).line }
+        → IsIn (Hears by p l) (s.node q).log → IsIn (Sends by q l) (s.node p).log }
 {}
 
 /// A node that is up and rolls after a step was asked to, and heard from the asker what the asker's
@@ -51,9 +52,9 @@ pub fn the_row_of_a_check_ask_is_a_step()
         → Step peer s (hear_check_ask peer k o x a first s (s.node o).mode) }
 {}
 
-/// There is a run in which a rollback gets Yes and cuts a line: nobody shall think the steps empty.
-pub fn a_rollback_can_cut_a_line()
-    ensures { (peer : ℕ → ℕ → Bool) × CutsALine peer }
+/// There is a run in which a rollback gets Yes and cuts a log: nobody shall think the steps empty.
+pub fn a_rollback_can_cut_a_log()
+    ensures { (peer : ℕ → ℕ → Bool) × CutsALog peer }
 {}
 
 /// There is a run in which a check of two nodes gets Yes while one of them is down.

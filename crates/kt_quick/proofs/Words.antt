@@ -1,4 +1,5 @@
 -- How the program ends by the same words.
+-- Cited by `program::run_arguments`, `program::run_texts`.
 use Rattle.std.proofs.Common.{◌≡◌, ℕ, List, subst}
 use Rattle.kt_scene.specs.Outside.{Reader, Writer}
 use Rattle.kt_command.specs.Command.{Text}

@@ -1,4 +1,5 @@
 //! What the program does with its words and its three streams.
+//! Cited by no other file of crates/.
 ghost use Rattle.std.specs.Prelude.{◌≡◌, ◌⊎◌, IfOk, IsErr};
 ghost use Rattle.std.specs.Vec.Iter.{into_iter_items};
 ghost use Rattle.kt_command.specs.Command.{texts, words_behind};

@@ -1,5 +1,6 @@
 -- Where each message that the machine's acts have heard is one that they have sent, the acts of the history that they
 -- stand for have with each act all of its past.
+-- Cited by Agreeing, Forcing.
 use Rattle.std.proofs.Common.{◌≡◌, ◌≢◌, ℕ, ◌≤◌, refl, List, [], ◌∷◌, ◌++◌, take, Contains, Some, inl, inr, sym, ap, subst, ◌∙◌, arith}
 use Rattle.std.proofs.lemmas.List.Elements.{Contains-append_left, Contains-append_right}
 use Rattle.kt_tuple.specs.declared.node.NodeId.{NodeId}
@@ -8,14 +9,14 @@ use Rattle.kt_tuple.proofs.Shared.{node_index-injective}
 use Rattle.kt_history.specs.declared.note.Act.{Act as Done}
 use Rattle.kt_history.specs.declared.note.Note.{Note}
 use Rattle.kt_history.specs.declared.note.Note.TheVariants as notes
-use Rattle.kt_history.specs.Line.{note_at, before, line, IsAct}
+use Rattle.kt_history.specs.Log.{note_at, before, log, IsAct}
 use Rattle.kt_history.specs.WellFormed.{CausesComeFirst}
-use Rattle.kt_history.specs.Past.{InPast, StoodBefore, IsCauseOf, itself, in_line, by_cause}
+use Rattle.kt_history.specs.Past.{InPast, StoodBefore, IsCauseOf, itself, in_log, by_cause}
 use Rattle.kt_history.proofs.Shared.{slice_get-from_Contains, slice_get-take, slice_get-take_below, Contains-from_slice_get, Contains-from_take, Contains-here}
-use Rattle.kt_history.proofs.Shared.{line-own, line-stack, note_before}
-use Rattle.kt_world.specs.Cut.{IsInCut, IsCausallyClosed}
+use Rattle.kt_history.proofs.Shared.{log-own, log-stack, note_before}
+use Rattle.kt_model.specs.Cut.{IsInCut, IsCausallyClosed}
 use Rattle.kt_protocol.specs.Labels.{Label}
-use Rattle.kt_protocol.specs.Lines.{IsIn, here, there, Act, Sends, Hears, Resumes}
+use Rattle.kt_protocol.specs.Logs.{IsIn, here, there, Act, Sends, Hears, Resumes}
 use Rattle.kt_refinement.proofs.Numbers.{named, index-named}
 use Rattle.kt_refinement.proofs.Mail.{in-parts}
 use Rattle.kt_refinement.proofs.Reading.{Reads, nothing, found, one, WasHeard, IsFound, IsKnown, was_heard, was_before, AllTalk}
@@ -74,26 +75,26 @@ before-stands {h} (one {numbers} {acts} m new reads act) p first sent heard i n 
 -- ---- the cut
 
 -- an act that stood before one of the first so many is one of them
-taken-before : (h : List Note) (p : NodeId) (k g f : ℕ) → Contains (take k (line h p)) f → Contains (line (before h f) p) g → Contains (take k (line h p)) g
+taken-before : (h : List Note) (p : NodeId) (k g f : ℕ) → Contains (take k (log h p)) f → Contains (log (before h f) p) g → Contains (take k (log h p)) g
 taken-before h p k g f among stood =
-    let j = slice_get-from_Contains (take k (line h p)) f among in
-    let at_j = slice_get-take k (line h p) j.0 f j.1 in
-    let front : line (before h f) p ≡ take j.0 (line h p) = line-stack h p j.0 f at_j.1 in
-    let i = slice_get-from_Contains (take j.0 (line h p)) g (subst (λ (l : List ℕ). Contains l g) front stood) in
-    let at_i = slice_get-take j.0 (line h p) i.0 g i.1 in
-    Contains-from_slice_get (take k (line h p)) i.0 g (slice_get-take_below k (line h p) i.0 (omega (arith, at_i.0, at_j.0)) ∙ at_i.1)
+    let j = slice_get-from_Contains (take k (log h p)) f among in
+    let at_j = slice_get-take k (log h p) j.0 f j.1 in
+    let front : log (before h f) p ≡ take j.0 (log h p) = log-stack h p j.0 f at_j.1 in
+    let i = slice_get-from_Contains (take j.0 (log h p)) g (subst (λ (l : List ℕ). Contains l g) front stood) in
+    let at_i = slice_get-take j.0 (log h p) i.0 g i.1 in
+    Contains-from_slice_get (take k (log h p)) i.0 g (slice_get-take_below k (log h p) i.0 (omega (arith, at_i.0, at_j.0)) ∙ at_i.1)
 
--- the machine's acts of each node, and the first acts of its line that they stand for
-pub closed-by : (h : List Note) (cut : NodeId → ℕ) (acts : ℕ → List Act) → ((p : NodeId) → Reads h (take (cut p) (line h p)) (acts (node_index p)))
+-- the machine's acts of each node, and the first acts of its log that they stand for
+pub closed-by : (h : List Note) (cut : NodeId → ℕ) (acts : ℕ → List Act) → ((p : NodeId) → Reads h (take (cut p) (log h p)) (acts (node_index p)))
     → ((p q by : ℕ) (l : Label) → IsIn (Hears by p l) (acts q) → IsIn (Sends by q l) (acts p))
     → ((q : NodeId) (g : ℕ) → IsFound g (acts (node_index q)) → IsAct h g → IsInCut h cut g) → CausesComeFirst h → IsCausallyClosed h cut
 closed-by h cut acts reads sent early causes e f past among = by past among where
   stood-in : (g f : ℕ) → StoodBefore h g f → IsInCut h cut f → IsInCut h cut g
   stood-in g f s c =
-      let own = line-own h c.0 f (Contains-from_take (cut c.0) (line h c.0) f c.1) in
+      let own = log-own h c.0 f (Contains-from_take (cut c.0) (log h c.0) f c.1) in
       let both : Some (notes.Act s.act) ≡ Some (notes.Act own.act) = sym s.is_act ∙ own.is_act in
       let same : s.act ≡ own.act = cc (both) in
-      let P : NodeId → Type 0 = λ q. Contains (line (before h f) q) g in
+      let P : NodeId → Type 0 = λ q. Contains (log (before h f) q) g in
       (c.0, taken-before h c.0 (cut c.0) g f c.1 (subst P (ap (λ (a : Done). a.node) same ∙ own.own) s.stood))
 
   cause-in : (g f : ℕ) → IsCauseOf h g f → IsInCut h cut f → IsInCut h cut g
@@ -108,7 +109,7 @@ closed-by h cut acts reads sent early causes e f past among = by past among wher
           let x = named heard.from in
           let A : ℕ → Type 0 = λ k. IsIn (Sends s.act.by (node_index c.0) heard.label) (acts k) in
           let stands = sent-stands (reads x) s.act.by (node_index c.0) heard.label (subst A (sym (index-named heard.from)) from) in
-          let G : ℕ → Type 0 = λ k. Contains (take (cut x) (line h x)) k in
+          let G : ℕ → Type 0 = λ k. Contains (take (cut x) (log h x)) k in
           (x, subst G s.names stands)
 
       by_way : IsKnown s.act.by (acts (node_index c.0)) → IsInCut h cut g
@@ -120,5 +121,5 @@ closed-by h cut acts reads sent early causes e f past among = by past among wher
 
   by : {f : ℕ} → InPast h e f → IsInCut h cut f → IsInCut h cut e
   by itself c = c
-  by (in_line {g} {f} s past) c = by past (stood-in g f s c)
+  by (in_log {g} {f} s past) c = by past (stood-in g f s c)
   by (by_cause {g} {f} s past) c = by past (cause-in g f s c)

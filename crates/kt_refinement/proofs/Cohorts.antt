@@ -1,4 +1,5 @@
 -- Whom a node asks: each neighbour of a kind gets one ask, all others none; and what an ask drops of what is kept.
+-- Cited by Acting, Answering, BeginsCheck, Checking, JoinsCheck, JoinsRollback, Restarts.
 use Rattle.std.proofs.Common.{◌≡◌, ◌≢◌, ℕ, zero, suc, ◌+◌, ◌<◌, ◌≤◌, Bool, true, false, not, ◌&&◌, ◌||◌, cond, eqb}
 use Rattle.std.proofs.Common.{IsTrue, List, [], ◌∷◌, ◌++◌, map, filter, Contains, inl, inr, refl, sym, ap, subst, ◌∙◌, arith}
 use Rattle.std.specs.Prelude.{if◌then◌else◌}
@@ -8,20 +9,20 @@ use Rattle.kt_tuple.specs.declared.node.NodeId.{NodeId}
 use Rattle.kt_tuple.specs.declared.node.NodeId.TheVariants as ids
 use Rattle.kt_tuple.specs.Node.{node_index, node_eq, node_eq_decides}
 use Rattle.kt_history.proofs.Shared.{Contains-here, Contains-there}
-use Rattle.kt_lines.proofs.Shared.{all-at}
+use Rattle.kt_logs.proofs.Shared.{all-at}
 use Rattle.kt_link.specs.declared.label.Label.{Label as RealLabel}
-use Rattle.kt_node.specs.declared.message.Message.{Message as RealMessage}
-use Rattle.kt_node.specs.declared.message.Post.{Post as RealPost}
-use Rattle.kt_node.specs.Labels.{numbers, up_to}
-use Rattle.kt_node.specs.Node.{across, neighbours, node_number}
-use Rattle.kt_node.specs.Turning.{is_above}
-use Rattle.kt_world.specs.Cast.{Cast, are_neighbours, is_node}
-use Rattle.kt_world.specs.State.{role_of}
-use Rattle.kt_world.specs.inner.Ready.{AreNeighbours}
-use Rattle.kt_world.proofs.Shared.{all-map, all-filter, all-numbers, Ends, to_shard, to_worker, ends, across-neighbour, role-id}
+use Rattle.kt_state.specs.declared.message.Message.{Message as RealMessage}
+use Rattle.kt_state.specs.declared.message.AppMessage.{AppMessage as RealAppMessage}
+use Rattle.kt_state.specs.Labels.{numbers, up_to}
+use Rattle.kt_state.specs.Node.{across, neighbours, node_number}
+use Rattle.kt_state.specs.Updating.{is_above}
+use Rattle.kt_scenario.specs.Scene.{SceneModel, are_neighbours, is_node}
+use Rattle.kt_model.specs.State.{role_of}
+use Rattle.kt_model.specs.auxiliary.Ready.{AreNeighbours}
+use Rattle.kt_model.proofs.Shared.{all-map, all-filter, all-numbers, Ends, to_shard, to_worker, ends, across-neighbour, role-id}
 use Rattle.kt_protocol.specs.Steps.{sieve}
 use Rattle.kt_refinement.proofs.Numbers.{named, peers, peers-of, named-index, label_of}
-use Rattle.kt_refinement.proofs.Represents.{kept_one, kept_from, post_of}
+use Rattle.kt_refinement.proofs.Represents.{kept_one, kept_from, app_of}
 use Rattle.kt_refinement.proofs.Links.{to}
 
 -- ---- the neighbours of a node by their numbers
@@ -94,35 +95,35 @@ any-one p g from (suc n) k low high = elim (cases_eq from k) [
   there d true rest = rw (across-eq p from k ∙ ne_eqb from k d) rest
 
 -- a neighbour is across
-pub record IsAcross (cast : Cast) (p q : NodeId) : Type 0 where
+pub record IsAcross (scene : SceneModel) (p q : NodeId) : Type 0 where
   pub is : q ≡ across p (node_number q)
   pub low : 1 ≤ node_number q
-  pub high : node_number q ≤ (role_of cast p).peers
+  pub high : node_number q ≤ (role_of scene p).peers
 
-pub is_across : (cast : Cast) (p q : NodeId) → AreNeighbours cast p q → IsAcross cast p q
-is_across cast p q near = by p q (ends cast p q near) where
-  by : (p q : NodeId) → Ends cast p q → IsAcross cast p q
+pub is_across : (scene : SceneModel) (p q : NodeId) → AreNeighbours scene p q → IsAcross scene p q
+is_across scene p q near = by p q (ends scene p q near) where
+  by : (p q : NodeId) → Ends scene p q → IsAcross scene p q
   by p q (to_shard a b c d) = record { is = refl; low = c; high = d }
   by p q (to_worker a b c d) = record { is = refl; low = a; high = b }
 
 -- those neighbours that pass
-abbrev pub chosen : Cast → NodeId → (NodeId → Bool) → List NodeId
-chosen cast p g = filter g (neighbours (role_of cast p))
+abbrev pub chosen : SceneModel → NodeId → (NodeId → Bool) → List NodeId
+chosen scene p g = filter g (neighbours (role_of scene p))
 
-abbrev pub cohort : Cast → NodeId → (NodeId → Bool) → ℕ → Bool
-cohort cast p g m = peers cast (node_index p) m && g (named m)
+abbrev pub cohort : SceneModel → NodeId → (NodeId → Bool) → ℕ → Bool
+cohort scene p g m = peers scene (node_index p) m && g (named m)
 
 -- each of these gets its ask
-pub asked-once : (cast : Cast) (p : NodeId) (g : NodeId → Bool) (f : NodeId → RealMessage) (q : NodeId) → AreNeighbours cast p q
-    → to q (map (addressed f) (chosen cast p g)) ≡ (if g q then f q ∷ [] else [])
-asked-once cast p g f q near =
-    let a = is_across cast p q near in
-    let P : NodeId → Type 0 = λ x. to x (map (addressed f) (chosen cast p g)) ≡ (if g x then f x ∷ [] else []) in
-    let R : NodeId → Type 0 = λ i. to (across p (node_number q)) (map (addressed f) (filter g (map (across i) (numbers 1 (role_of cast p).peers))))
+pub asked-once : (scene : SceneModel) (p : NodeId) (g : NodeId → Bool) (f : NodeId → RealMessage) (q : NodeId) → AreNeighbours scene p q
+    → to q (map (addressed f) (chosen scene p g)) ≡ (if g q then f q ∷ [] else [])
+asked-once scene p g f q near =
+    let a = is_across scene p q near in
+    let P : NodeId → Type 0 = λ x. to x (map (addressed f) (chosen scene p g)) ≡ (if g x then f x ∷ [] else []) in
+    let R : NodeId → Type 0 = λ i. to (across p (node_number q)) (map (addressed f) (filter g (map (across i) (numbers 1 (role_of scene p).peers))))
     ≡ (if g (across p (node_number q)) then f (across p (node_number q)) ∷ [] else []) in
     let low = a.low in
     let high = a.high in
-    subst P (sym a.is) (subst R (sym (role-id cast p)) (to-one p g f 1 (role_of cast p).peers (node_number q) low (omega (arith, high))))
+    subst P (sym a.is) (subst R (sym (role-id scene p)) (to-one p g f 1 (role_of scene p).peers (node_number q) low (omega (arith, high))))
 
 any-found : (q : NodeId) (xs : List NodeId) → list_any (λ x. node_eq x q) xs ≡ true → Contains xs q
 any-found q [] e = absurd (cc (e))
@@ -132,39 +133,41 @@ any-found q (x ∷ xs) e = by (node_eq x q) refl e (any-found q xs) where
   by true same e rest = subst (λ y. Contains (x ∷ xs) y) ((node_eq_decides x q).0 same) (Contains-here x xs)
   by false other e rest = Contains-there x xs q (rest e)
 
-chosen-near : (cast : Cast) (p : NodeId) (g : NodeId → Bool) (q : NodeId) → IsTrue (is_node cast p) → Contains (chosen cast p g) q → AreNeighbours cast p q
-chosen-near cast p g q is on =
-    let R : NodeId → Type 0 = λ i. Rattle.std.specs.List.AllByRecursion (AreNeighbours cast p) (filter g (map (across i) (numbers 1 (role_of cast p).peers))) in
-    all-at (AreNeighbours cast p) (chosen cast p g) q
-    (subst R (sym (role-id cast p)) (all-filter (AreNeighbours cast p) g (map (across p) (numbers 1 (role_of cast p).peers))
-    (all-map (AreNeighbours cast p) (across p) (numbers 1 (role_of cast p).peers)
-    (all-numbers (λ k. AreNeighbours cast p (across p k)) 1 (role_of cast p).peers
-    (λ k low high. across-neighbour cast p k is low (omega (arith, high))))))) on
+chosen-near : (scene : SceneModel) (p : NodeId) (g : NodeId → Bool) (q : NodeId) → IsTrue (is_node scene p) → Contains (chosen scene p g) q
+    → AreNeighbours scene p q
+chosen-near scene p g q is on =
+    let R : NodeId → Type 0 = λ i. Rattle.std.specs.List.AllByRecursion (AreNeighbours scene p)
+    (filter g (map (across i) (numbers 1 (role_of scene p).peers))) in
+    all-at (AreNeighbours scene p) (chosen scene p g) q
+    (subst R (sym (role-id scene p)) (all-filter (AreNeighbours scene p) g (map (across p) (numbers 1 (role_of scene p).peers))
+    (all-map (AreNeighbours scene p) (across p) (numbers 1 (role_of scene p).peers)
+    (all-numbers (λ k. AreNeighbours scene p (across p k)) 1 (role_of scene p).peers
+    (λ k low high. across-neighbour scene p k is low (omega (arith, high))))))) on
 
 -- these are the machine's cohort
-pub chosen-cohort : (cast : Cast) (p : NodeId) (g : NodeId → Bool) (q : NodeId) → IsTrue (is_node cast p)
-    → cohort cast p g (node_index q) ≡ list_any (λ x. node_eq x q) (chosen cast p g)
-chosen-cohort cast p g q is =
-    ap (λ b. b && g (named (node_index q))) (peers-of cast p q) ∙ ap (λ x. are_neighbours cast p q && g x) (named-index q)
-    ∙ by (are_neighbours cast p q) refl where
-      no : (b : Bool) → list_any (λ x. node_eq x q) (chosen cast p g) ≡ b → are_neighbours cast p q ≡ false → false ≡ b
-      no true e f = absurd (cc (f, chosen-near cast p g q is (any-found q (chosen cast p g) e)))
+pub chosen-cohort : (scene : SceneModel) (p : NodeId) (g : NodeId → Bool) (q : NodeId) → IsTrue (is_node scene p)
+    → cohort scene p g (node_index q) ≡ list_any (λ x. node_eq x q) (chosen scene p g)
+chosen-cohort scene p g q is =
+    ap (λ b. b && g (named (node_index q))) (peers-of scene p q) ∙ ap (λ x. are_neighbours scene p q && g x) (named-index q)
+    ∙ by (are_neighbours scene p q) refl where
+      no : (b : Bool) → list_any (λ x. node_eq x q) (chosen scene p g) ≡ b → are_neighbours scene p q ≡ false → false ≡ b
+      no true e f = absurd (cc (f, chosen-near scene p g q is (any-found q (chosen scene p g) e)))
       no false e f = refl
 
-      by : (b : Bool) → are_neighbours cast p q ≡ b → (b && g q) ≡ list_any (λ x. node_eq x q) (chosen cast p g)
+      by : (b : Bool) → are_neighbours scene p q ≡ b → (b && g q) ≡ list_any (λ x. node_eq x q) (chosen scene p g)
       by true e =
-          let a = is_across cast p q e in
+          let a = is_across scene p q e in
           let low = a.low in
           let high = a.high in
-          let P : NodeId → Type 0 = λ x. g x ≡ list_any (λ y. node_eq y x) (chosen cast p g) in
+          let P : NodeId → Type 0 = λ x. g x ≡ list_any (λ y. node_eq y x) (chosen scene p g) in
           let R : NodeId → Type 0 = λ i. g (across p (node_number q))
-          ≡ list_any (λ y. node_eq y (across p (node_number q))) (filter g (map (across i) (numbers 1 (role_of cast p).peers))) in
-          subst P (sym a.is) (subst R (sym (role-id cast p)) (sym (any-one p g 1 (role_of cast p).peers (node_number q) low (omega (arith, high)))))
-      by false e = no (list_any (λ x. node_eq x q) (chosen cast p g)) refl e
+          ≡ list_any (λ y. node_eq y (across p (node_number q))) (filter g (map (across i) (numbers 1 (role_of scene p).peers))) in
+          subst P (sym a.is) (subst R (sym (role-id scene p)) (sym (any-one p g 1 (role_of scene p).peers (node_number q) low (omega (arith, high)))))
+      by false e = no (list_any (λ x. node_eq x q) (chosen scene p g)) refl e
 
 -- ---- what an ask drops
 
-pub kept-sieved : (p : NodeId) (l : RealLabel) (kept : List (NodeId × RealPost))
+pub kept-sieved : (p : NodeId) (l : RealLabel) (kept : List (NodeId × RealAppMessage))
     → kept_from p (filter (λ x. not (is_above p l x)) kept) ≡ sieve (label_of l) (kept_from p kept)
 unfolding kept_from sieve
 kept-sieved p l [] = refl
@@ -172,12 +175,12 @@ kept-sieved p l (x ∷ kept) = by (node_eq x.0 p) refl (up_to x.1.label l) refl 
   by : (b : Bool) → node_eq x.0 p ≡ b → (u : Bool) → up_to x.1.label l ≡ u
       → kept_from p (filter (λ y. not (is_above p l y)) kept) ≡ sieve (label_of l) (kept_from p kept)
       → kept_from p (cond (not (b && not u)) (x ∷ filter (λ y. not (is_above p l y)) kept) (filter (λ y. not (is_above p l y)) kept))
-      ≡ sieve (label_of l) ((if b then post_of x.1 ∷ [] else []) ++ kept_from p kept)
-  by true e true f rest = rw e (rw f (ap (λ k. post_of x.1 ∷ k) rest))
+      ≡ sieve (label_of l) ((if b then app_of x.1 ∷ [] else []) ++ kept_from p kept)
+  by true e true f rest = rw e (rw f (ap (λ k. app_of x.1 ∷ k) rest))
   by true e false f rest = rw f rest
   by false e u f rest = rw e rest
 
-pub kept-others : (p q : NodeId) (l : RealLabel) (kept : List (NodeId × RealPost)) → p ≢ q
+pub kept-others : (p q : NodeId) (l : RealLabel) (kept : List (NodeId × RealAppMessage)) → p ≢ q
     → kept_from q (filter (λ x. not (is_above p l x)) kept) ≡ kept_from q kept
 unfolding kept_from
 kept-others p q l [] d = refl

@@ -1,5 +1,6 @@
 -- A node that is up rolls back, or takes a checkpoint that it was asked for, only where it has to: it heard what the
 -- asker's permanent checkpoint lacks, or the asker heard what its own lacks.
+-- Cited by Lasting.
 use Rattle.std.proofs.Common.{◌≡◌, ◌≢◌, ℕ, false, IsTrue, List, [], ◌∷◌, Contains, Some, inl, inr, refl, sym, subst, ◌∙◌, arith}
 use Rattle.std.proofs.lemmas.List.Elements.{Contains-append_left, Contains-append_right, Contains-push_cases}
 use Rattle.kt_tuple.specs.declared.node.NodeId.{NodeId}
@@ -8,31 +9,32 @@ use Rattle.kt_tuple.proofs.Shared.{node_index-injective}
 use Rattle.kt_history.specs.declared.note.Act.{Act as Done}
 use Rattle.kt_history.specs.declared.note.Note.{Note}
 use Rattle.kt_history.specs.declared.note.Note.TheVariants as notes
-use Rattle.kt_history.specs.Line.{note_at, line}
+use Rattle.kt_history.specs.Log.{note_at, log}
 use Rattle.kt_history.proofs.Shared.{Contains-here, Contains-none, note_at-within}
-use Rattle.kt_store.specs.Content.{permanent_marks}
-use Rattle.kt_node.specs.declared.message.Ask.{Ask as RealAsk}
-use Rattle.kt_node.specs.declared.message.Message.TheVariants as messages
-use Rattle.kt_node.specs.declared.live.Phase.TheVariants as phases
-use Rattle.kt_node.specs.declared.node.Mode.TheVariants as modes
-use Rattle.kt_node.specs.declared.plan.Plan.{Plan}
+use Rattle.kt_store.specs.Content.{permanent_header}
+use Rattle.kt_state.specs.declared.message.Ask.{Ask as RealAsk}
+use Rattle.kt_state.specs.declared.message.Message.TheVariants as messages
+use Rattle.kt_state.specs.declared.live.Phase.TheVariants as phases
+use Rattle.kt_state.specs.declared.node.Mode.TheVariants as modes
+use Rattle.kt_state.specs.declared.plan.Plan.{Plan}
 use Rattle.kt_node.specs.declared.reaction.Reaction.TheVariants as reactions
-use Rattle.kt_node.specs.Labels.{up_to, label_at}
-use Rattle.kt_node.specs.Node.{Live, node_number}
-use Rattle.kt_node.specs.Stored.{is_undecided, sent_in}
+use Rattle.kt_state.specs.Labels.{up_to, label_at}
+use Rattle.kt_state.specs.Node.{Live, node_number}
+use Rattle.kt_state.specs.Stored.{is_undecided, sent_in}
 use Rattle.kt_node.specs.Arrivals.{check_in, check_reaction}
-use Rattle.kt_world.specs.declared.step.Step.{Step}
-use Rattle.kt_world.specs.declared.step.Step.TheVariants.{Deliver}
-use Rattle.kt_world.specs.Forced.{HasHeardBeyond, HasHeardAhead, MustRoll, WhyHeld, began, forced, IsForced}
-use Rattle.kt_world.specs.State.{State as World}
-use Rattle.kt_world.specs.Cut.{permanent_length}
-use Rattle.kt_world.specs.Told.{told, tentative_in}
-use Rattle.kt_world.specs.Effect.{applied}
-use Rattle.kt_world.proofs.Shared.{IsAlive, Comes, PlanOf, neighbours-turned, Holds}
+use Rattle.kt_scenario.specs.declared.step.Step.{Step}
+use Rattle.kt_scenario.specs.declared.step.Step.TheVariants.{Deliver}
+use Rattle.kt_model.specs.Forced.{HasHeardBeyond, HasHeardAhead, MustRoll, WhyHeld, began, forced, IsForced}
+use Rattle.kt_model.specs.State.{State as World}
+use Rattle.kt_model.specs.Cut.{permanent_length}
+use Rattle.kt_model.specs.StoreReads.{store_reads, tentative_in}
+use Rattle.kt_model.specs.Effect.{applied}
+use Rattle.kt_model.proofs.Shared.{IsAlive, Comes, PlanOf, neighbours-turned, Holds}
 use Rattle.kt_protocol.specs.Labels.{Label, Under, UpTo}
-use Rattle.kt_protocol.specs.Lines.{IsIn, here, there, Act, Sends, Hears, Resumes, top_sent, top_heard}
+use Rattle.kt_protocol.specs.Logs.{IsIn, here, there, Act, Sends, Hears, Resumes, top_sent, top_heard}
 use Rattle.kt_protocol.specs.Machine.{Check, Rollback, Ask, Message, State}
-use Rattle.kt_protocol.proofs.Shared.{Under-not, Under-UpTo, UpTo-Under, UpTo-trans, UpTo-eq, Falls-tail, sent-top, heard-attained, tail-in, up-gone, some-none, rolling-none}
+use Rattle.kt_protocol.proofs.Shared.{Under-not, Under-UpTo, UpTo-Under, UpTo-trans, UpTo-eq, Falls-tail, sent-top, heard-attained, tail-in, up-gone, some-none}
+use Rattle.kt_protocol.proofs.Shared.{rolling-none}
 use Rattle.kt_protocol.proofs.Shared.{up_to-false, core, Caused, made, lost, cut_soon, Invariant}
 use Rattle.kt_refinement.proofs.Numbers.{peers, label_of}
 use Rattle.kt_refinement.proofs.Reading.{IsSaying, Says, Reads, nothing, found, one, IsFound}
@@ -105,8 +107,8 @@ said-stands {h} (one {numbers} {acts} n new reads act) by p said since among = e
 
 -- what the hearer's acts have heard of the sender above all that the sender's permanent acts have sent to it is beyond the
 -- sender's permanent checkpoint
-beyond : (s : World) (c : State) → Invariant (peers s.cast) c → Represents s c → Lettered s.history c → (hearer sender : NodeId) (by : ℕ) (l : Label)
-    → IsIn (Hears by (node_index sender) l) (c.node (node_index hearer)).line
+beyond : (s : World) (c : State) → Invariant (peers s.scene) c → Represents s c → Lettered s.history c → (hearer sender : NodeId) (by : ℕ) (l : Label)
+    → IsIn (Hears by (node_index sender) l) (c.node (node_index hearer)).log
     → Under (top_sent (c.node (node_index sender)).perm (node_index hearer)) l
     → (heard : HasHeardBeyond s.history hearer sender (permanent_length s.content sender)) × (heard.cause ≡ by)
 beyond s c inv is letters hearer sender by l i above = (
@@ -126,8 +128,8 @@ beyond s c inv is letters hearer sender by l i above = (
   o : ℕ
   o = node_index hearer
 
-  w : WasCaused s.history (line s.history hearer) by
-  w = heard-stands (is.nodes hearer).line by (node_index sender) l i
+  w : WasCaused s.history (log s.history hearer) by
+  w = heard-stands (is.nodes hearer).log by (node_index sender) l i
 
   fits : Fits s.history letters.first letters.letter by (node_index sender) (node_index hearer) l
   fits = (letters.fit.nodes (node_index hearer)).heard by (node_index sender) l i
@@ -156,19 +158,19 @@ beyond s c inv is letters hearer sender by l i above = (
 
 -- ---- an ask to roll back
 
-pub has-to-roll : (s : World) (c : State) → Invariant (peers s.cast) c → Represents s c → Lettered s.history c → (p q : NodeId) (n : Live) (ask : RealAsk)
-    → Comes s p q (messages.RollAsk ask) → IsAlive s q n → IsTrue (is_undecided (told s (Deliver p q)).verdict)
+pub has-to-roll : (s : World) (c : State) → Invariant (peers s.scene) c → Represents s c → Lettered s.history c → (p q : NodeId) (n : Live) (ask : RealAsk)
+    → Comes s p q (messages.RollAsk ask) → IsAlive s q n → IsTrue (is_undecided (store_reads s (Deliver p q)).verdict)
     → up_to (label_at n.received (node_number p)) ask.label ≡ false → HasHeardBeyond s.history q p (permanent_length s.content p)
 has-to-roll s c inv is letters p q n ask comes alive undecided above =
     let heard = heard-attained (node_index p) (inv.local (node_index q)).tail (UpTo-Under low over) in
-    (beyond s c inv is letters q p heard.0 (top_heard (c.node (node_index q)).line (node_index p)) heard.1
-    (subst (λ l. Under l (top_heard (c.node (node_index q)).line (node_index p))) meant over)).0
+    (beyond s c inv is letters q p heard.0 (top_heard (c.node (node_index q)).log (node_index p)) heard.1
+    (subst (λ l. Under l (top_heard (c.node (node_index q)).log (node_index p))) meant over)).0
   where
     front : c.link (node_index p) (node_index q) ≡ Ask (Rollback ask.instance) (label_of ask.label) ask.incarnation ∷ carried comes.later
     front = comes-is s c is p q (messages.RollAsk ask) comes
 
-    over : Under (label_of ask.label) (top_heard (c.node (node_index q)).line (node_index p))
-    over = subst (λ l. Under (label_of ask.label) l) ((alive-is s c is q n alive).state.received p (neighbours-turned s.cast p q comes.neighbours))
+    over : Under (label_of ask.label) (top_heard (c.node (node_index q)).log (node_index p))
+    over = subst (λ l. Under (label_of ask.label) l) ((alive-is s c is q n alive).state.received p (neighbours-turned s.scene p q comes.neighbours))
         (up_to-false (label_of (label_at n.received (node_number p))) (label_of ask.label) above)
 
     -- the asker asks with what its permanent checkpoint has sent
@@ -185,19 +187,20 @@ has-to-roll s c inv is letters p q n ask comes alive undecided above =
 
 -- ---- an ask to take a checkpoint
 
-pub has-to-hold : (s : World) (c : State) → Invariant (peers s.cast) c → Represents s c → Holds s → Lettered s.history c → (p q : NodeId) (n : Live)
-    (ask : RealAsk) → Comes s p q (messages.CheckAsk ask) → IsAlive s q n → n.phase ≡ phases.Up → IsTrue (is_undecided (told s (Deliver p q)).verdict)
-    → check_reaction n p ask (told s (Deliver p q)).verdict (told s (Deliver p q)).permanent (told s (Deliver p q)).tentative ≡ reactions.Joins
+pub has-to-hold : (s : World) (c : State) → Invariant (peers s.scene) c → Represents s c → Holds s → Lettered s.history c → (p q : NodeId) (n : Live)
+    (ask : RealAsk) → Comes s p q (messages.CheckAsk ask) → IsAlive s q n → n.phase ≡ phases.Up → IsTrue (is_undecided (store_reads s (Deliver p q)).verdict)
+    → check_reaction n p ask (store_reads s (Deliver p q)).verdict (store_reads s (Deliver p q)).permanent (store_reads s (Deliver p q)).tentative
+    ≡ reactions.Joins
     → HasHeardAhead s.history p q (permanent_length s.content q)
 has-to-hold s c inv is h letters p q n ask comes alive up undecided reacts =
-    let heard = heard-attained o (inv.local x).tail (UpTo-Under (inv.pair o x (near-is s q p (neighbours-turned s.cast p q comes.neighbours))).agree over) in
-    let more = beyond s c inv is letters p q heard.0 (top_heard (c.node x).line o) heard.1 over in
-    let sent = by_whom heard.0 (top_heard (c.node x).line o)
-    ((inv.pair o x (near-is s q p (neighbours-turned s.cast p q comes.neighbours))).caused heard.0 (top_heard (c.node x).line o) heard.1) in
-    let C : ℕ → Type 0 = λ k. Contains (line s.history q) k in
+    let heard = heard-attained o (inv.local x).tail (UpTo-Under (inv.pair o x (near-is s q p (neighbours-turned s.scene p q comes.neighbours))).agree over) in
+    let more = beyond s c inv is letters p q heard.0 (top_heard (c.node x).log o) heard.1 over in
+    let sent = by_whom heard.0 (top_heard (c.node x).log o)
+    ((inv.pair o x (near-is s q p (neighbours-turned s.scene p q comes.neighbours))).caused heard.0 (top_heard (c.node x).log o) heard.1) in
+    let C : ℕ → Type 0 = λ k. Contains (log s.history q) k in
     record {
       beyond = more.0;
-      remembered = subst C (sym more.1) (sent-stands (is.nodes q).line heard.0 x (top_heard (c.node x).line o) sent);
+      remembered = subst C (sym more.1) (sent-stands (is.nodes q).log heard.0 x (top_heard (c.node x).log o) sent);
     }
   where
     x : ℕ
@@ -210,42 +213,42 @@ has-to-hold s c inv is h letters p q n ask comes alive up undecided reacts =
     front = comes-is s c is p q (messages.CheckAsk ask) comes
 
     -- the asker asks with what it has heard, and holds the check
-    meant : ((c.node (node_index p)).tent ≡ Some ask.instance) × (label_of ask.label ≡ top_heard (c.node (node_index p)).line (node_index q))
+    meant : ((c.node (node_index p)).tent ≡ Some ask.instance) × (label_of ask.label ≡ top_heard (c.node (node_index p)).log (node_index q))
     meant =
         let on = subst (λ (l : List Message). IsIn (Ask (Check ask.instance) (label_of ask.label) ask.incarnation) l) (sym front) here in
         let fine = (inv.pair (node_index p) (node_index q) (near-is s p q comes.neighbours)).asks (Check ask.instance)
         (label_of ask.label) ask.incarnation on in
         fine.meant (check-open s c is ask.instance (asked-open s p q (messages.CheckAsk ask) ask.instance comes refl undecided))
 
-    above : up_to ask.label (sent_in (permanent_marks s.content q) (node_number p)) ≡ false
-    above = joins-above (is_undecided (told s (Deliver p q)).verdict) (up_to ask.label (sent_in (permanent_marks s.content q) (node_number p)))
+    above : up_to ask.label (sent_in (permanent_header s.content q) (node_number p)) ≡ false
+    above = joins-above (is_undecided (store_reads s (Deliver p q)).verdict) (up_to ask.label (sent_in (permanent_header s.content q) (node_number p)))
         (check_in n p ask (tentative_in s.content q) n.phase) reacts
 
-    over : Under (top_sent (c.node o).perm x) (top_heard (c.node x).line o)
+    over : Under (top_sent (c.node o).perm x) (top_heard (c.node x).log o)
     over =
-        let stored = (stored-is s c is h q n alive up).sent p (neighbours-turned s.cast p q comes.neighbours) in
+        let stored = (stored-is s c is h q n alive up).sent p (neighbours-turned s.scene p q comes.neighbours) in
         Under-UpTo (subst (λ l. Under l (label_of ask.label)) stored
-        (up_to-false (label_of ask.label) (label_of (sent_in (permanent_marks s.content q) (node_number p))) above)) (UpTo-eq meant.1)
+        (up_to-false (label_of ask.label) (label_of (sent_in (permanent_header s.content q) (node_number p))) above)) (UpTo-eq meant.1)
 
     -- who is up has not lost what the asker heard
-    by_whom : (by : ℕ) (l : Label) → Caused c.board o x (core (c.node o)) (c.node x).mode (c.node x).perm by l → IsIn (Sends by x l) (c.node o).line
+    by_whom : (by : ℕ) (l : Label) → Caused c.board o x (core (c.node o)) (c.node x).mode (c.node x).perm by l → IsIn (Sends by x l) (c.node o).log
     by_whom by l (made i) = i
     by_whom by l (lost u) = up-gone (up-is s c is q n alive up) u.gone
     by_whom by l (cut_soon u) = some-none (sym meant.0 ∙ rolling-none (c.node x).mode (c.node x).tent (inv.local x).way u.rolls)
 
 -- ---- each step
 
-pub forced-so : (s : World) (c : State) → Invariant (peers s.cast) c → Represents s c → Holds s → Lettered s.history c → (step : Step) (plan : Plan)
-    → PlanOf s (told s step) step plan → IsForced s step (applied s step plan)
+pub forced-so : (s : World) (c : State) → Invariant (peers s.scene) c → Represents s c → Holds s → Lettered s.history c → (step : Step) (plan : Plan)
+    → PlanOf s (store_reads s step) step plan → IsForced s step (applied s step plan)
 forced-so s c inv is h letters step plan of = record {
-  rolls = λ p was now. roll step p (why_votes s (told s step) step plan of p was modes.Rolling tt now);
-  holds = λ p was now. hold step p (why_votes s (told s step) step plan of p was modes.Held tt now);
+  rolls = λ p was now. roll step p (why_votes s (store_reads s step) step plan of p was modes.Rolling tt now);
+  holds = λ p was now. hold step p (why_votes s (store_reads s step) step plan of p was modes.Held tt now);
 } where
-  roll : (step : Step) (p : NodeId) → Starts s (told s step) p step modes.Rolling → MustRoll s step p
+  roll : (step : Step) (p : NodeId) → Starts s (store_reads s step) p step modes.Rolling → MustRoll s step p
   roll step p (joins_rollback {x} {n} {ask} comes alive up undecided above) =
       record { asker = x; came = refl; heard = has-to-roll s c inv is letters x p n ask comes alive undecided above }
 
-  hold : (step : Step) (p : NodeId) → Starts s (told s step) p step modes.Held → WhyHeld s step p
+  hold : (step : Step) (p : NodeId) → Starts s (store_reads s step) p step modes.Held → WhyHeld s step p
   hold step p begins = began refl
   hold step p (joins_check {x} {n} {ask} comes alive up undecided reacts) =
       forced (record { asker = x; came = refl; heard = has-to-hold s c inv is h letters x p n ask comes alive up undecided reacts })

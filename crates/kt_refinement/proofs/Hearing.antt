@@ -1,33 +1,34 @@
 -- A node that is up hears a message, from a link or from the front of what is kept: the machine hears it. Where the kept
 -- answer is sent again, the machine then sends.
+-- Cited by Hears.
 use Rattle.std.proofs.Common.{◌≡◌, ℕ, suc, ◌+◌, List, [], ◌∷◌, ◌++◌, length, Some, None, inl, inr, refl, sym, ap, subst, ◌∙◌, arith}
 use Rattle.kt_tuple.specs.declared.node.NodeId.{NodeId}
 use Rattle.kt_tuple.specs.Node.{node_index}
 use Rattle.kt_history.specs.declared.note.Act.{Act as Done}
 use Rattle.kt_history.specs.declared.note.Note.TheVariants as notes
-use Rattle.kt_history.specs.Line.{line}
+use Rattle.kt_history.specs.Log.{log}
 use Rattle.kt_shard.specs.Table.{put}
 use Rattle.kt_store.specs.Content.{row_of, verdict_on}
-use Rattle.kt_node.specs.declared.message.Post.{Post as RealPost}
-use Rattle.kt_node.specs.declared.message.Message.TheVariants as messages
-use Rattle.kt_node.specs.declared.live.Phase.TheVariants as phases
-use Rattle.kt_node.specs.declared.change.BodyChange.{BodyChange}
-use Rattle.kt_node.specs.declared.change.BodyChange.TheVariants as bodies
-use Rattle.kt_node.specs.declared.change.KeptChange.{KeptChange}
-use Rattle.kt_node.specs.declared.change.Change.TheVariants as changes
-use Rattle.kt_node.specs.declared.plan.Plan.{Plan}
-use Rattle.kt_node.specs.Labels.{no_label, label_at}
-use Rattle.kt_node.specs.Node.{Live, Alive, node_number, next_label}
-use Rattle.kt_node.specs.Turning.{changed_kept, turned}
-use Rattle.kt_world.specs.declared.step.Step.{Step}
-use Rattle.kt_world.specs.Step.{owner}
-use Rattle.kt_world.specs.State.{State as World, node}
-use Rattle.kt_world.specs.Effect.{applied}
-use Rattle.kt_world.specs.inner.Ready.{AreNeighbours}
-use Rattle.kt_world.proofs.Shared.{IsAlive, MayNote, Holds}
+use Rattle.kt_state.specs.declared.message.AppMessage.{AppMessage as RealAppMessage}
+use Rattle.kt_state.specs.declared.message.Message.TheVariants as messages
+use Rattle.kt_state.specs.declared.live.Phase.TheVariants as phases
+use Rattle.kt_state.specs.declared.change.BodyChange.{BodyChange}
+use Rattle.kt_state.specs.declared.change.BodyChange.TheVariants as bodies
+use Rattle.kt_state.specs.declared.change.KeptChange.{KeptChange}
+use Rattle.kt_state.specs.declared.change.Change.TheVariants as changes
+use Rattle.kt_state.specs.declared.plan.Plan.{Plan}
+use Rattle.kt_state.specs.Labels.{no_label, label_at}
+use Rattle.kt_state.specs.Node.{Live, Alive, node_number, next_label}
+use Rattle.kt_state.specs.Updating.{changed_kept, updated}
+use Rattle.kt_scenario.specs.declared.step.Step.{Step}
+use Rattle.kt_scenario.specs.Step.{owner}
+use Rattle.kt_model.specs.State.{State as World, node}
+use Rattle.kt_model.specs.Effect.{applied}
+use Rattle.kt_model.specs.auxiliary.Ready.{AreNeighbours}
+use Rattle.kt_model.proofs.Shared.{IsAlive, MayNote, Holds}
 use Rattle.kt_protocol.specs.Labels.{Label, at}
-use Rattle.kt_protocol.specs.Lines.{IsIn, here, there, Act, Sends, Hears, top_sent}
-use Rattle.kt_protocol.specs.Machine.{App, Node, State, Message, Post, next_label as next_of}
+use Rattle.kt_protocol.specs.Logs.{IsIn, here, there, Act, Sends, Hears, top_sent}
+use Rattle.kt_protocol.specs.Machine.{App, Node, State, Message, AppMessage, next_label as next_of}
 use Rattle.kt_protocol.specs.Steps.{sends, sending, only, change, push}
 use Rattle.kt_protocol.specs.Runs.{Run, one_more}
 use Rattle.kt_protocol.proofs.Shared.{at-here}
@@ -40,43 +41,43 @@ use Rattle.kt_refinement.proofs.Denies.{twice}
 use Rattle.kt_refinement.proofs.Frames.{LinksLead, Refines, owner-in, nodes-at, votes-at, leads-represents}
 use Rattle.kt_refinement.proofs.Known.{alive-is, up-is, near-is}
 use Rattle.kt_refinement.proofs.Acting.{sent-more, sent-unheard, heard-more, heard-unsent}
-use Rattle.kt_refinement.proofs.Acted.{act_turn, acted, acted-is}
+use Rattle.kt_refinement.proofs.Acted.{act_update, acted, acted-is}
 use Rattle.kt_refinement.proofs.Sending.{next-same, sent-alone, says-here, said-next}
 
 -- ---- the message is heard
 
 -- what stands on the stack of who heard it
-abbrev pub hearing_of : NodeId → RealPost → Act
-hearing_of from post = Hears post.by (node_index from) (label_of post.label)
+abbrev pub hearing_of : NodeId → RealAppMessage → Act
+hearing_of from app = Hears app.by (node_index from) (label_of app.label)
 
 -- the machine has heard it: the node keeps this, and these are the links
-abbrev pub heard_state : State → ℕ → NodeId → RealPost → (ℕ → List Post) → (ℕ → ℕ → List Message) → State
-heard_state c o from post kept links =
-    record c { node = at o (acted (hearing_of from post ∷ []) (c.node o).count kept (c.node o)) c.node; link = links }
+abbrev pub heard_state : State → ℕ → NodeId → RealAppMessage → (ℕ → List AppMessage) → (ℕ → ℕ → List Message) → State
+heard_state c o from app kept links =
+    record c { node = at o (acted (hearing_of from app ∷ []) (c.node o).count kept (c.node o)) c.node; link = links }
 
 -- how the machine hears it, and what that leaves on the links, be something sent then or nothing
-pub record HearsAs (s : World) (step : Step) (c : State) (n : Live) (turn : KeptChange) (from : NodeId) (post : RealPost) : Type 0 where
-  pub near : AreNeighbours s.cast (owner step) from
-  pub kept : ℕ → List Post
+pub record HearsAs (s : World) (step : Step) (c : State) (n : Live) (turn : KeptChange) (from : NodeId) (app : RealAppMessage) : Type 0 where
+  pub near : AreNeighbours s.scene (owner step) from
+  pub kept : ℕ → List AppMessage
   pub links : ℕ → ℕ → List Message
-  pub run : Run (peers s.cast) c (heard_state c (node_index (owner step)) from post kept links)
+  pub run : Run (peers s.scene) c (heard_state c (node_index (owner step)) from app kept links)
   pub still : Quiet run
   pub keeps : (q : NodeId) → kept (node_index q) ≡ kept_from q (changed_kept n.kept turn)
-  pub quiet : (plan : Plan) → ((r : NodeId) → AreNeighbours s.cast (owner step) r → carried (to r plan.send) ≡ []) → LinksLead s step plan c links
+  pub quiet : (plan : Plan) → ((r : NodeId) → AreNeighbours s.scene (owner step) r → carried (to r plan.send) ≡ []) → LinksLead s step plan c links
   pub telling : (plan : Plan) (send : ℕ → List Message)
-      → ((r : NodeId) → AreNeighbours s.cast (owner step) r → send (node_index r) ≡ carried (to r plan.send))
+      → ((r : NodeId) → AreNeighbours s.scene (owner step) r → send (node_index r) ≡ carried (to r plan.send))
       → LinksLead s step plan c (push (node_index (owner step)) send record c { link = links }).link
 
 -- the plan of an act that hears a message
-abbrev pub hearing_plan : KeptChange → NodeId → RealPost → BodyChange → Done → Plan
-hearing_plan turn from post body a =
-    record { change = changes.Turn (act_turn body turn (Some (from, post.label)) None); send = []; note = Some (notes.Act a); write = None }
+abbrev pub hearing_plan : KeptChange → NodeId → RealAppMessage → BodyChange → Done → Plan
+hearing_plan turn from app body a =
+    record { change = changes.Update (act_update body turn (Some (from, app.label)) None); send = []; note = Some (notes.Act a); write = None }
 
 -- and of one that answers it at once
-abbrev pub answering_plan : KeptChange → NodeId → RealPost → RealPost → Done → Plan
-answering_plan turn from post reply a = record {
-  change = changes.Turn (act_turn bodies.Stay turn (Some (from, post.label)) (Some from));
-  send = (from, messages.Post reply) ∷ [];
+abbrev pub answering_plan : KeptChange → NodeId → RealAppMessage → RealAppMessage → Done → Plan
+answering_plan turn from app reply a = record {
+  change = changes.Update (act_update bodies.Stay turn (Some (from, app.label)) (Some from));
+  send = (from, messages.App reply) ∷ [];
   note = Some (notes.Act a);
   write = None;
 }
@@ -98,13 +99,13 @@ heard-behind n y k by x l cause b z m e (there i) = heard-here by x l cause b z 
 
 -- ---- nothing is said
 
-pub hears_only : (s : World) (c : State) → Represents s c → Holds s → (step : Step) (n : Live) (turn : KeptChange) (from : NodeId) (post : RealPost)
-    (body : BodyChange) (a : Done) → IsAlive s (owner step) n → n.phase ≡ phases.Up → HearsAs s step c n turn from post
-    → a.node ≡ owner step → (IsSaying a.what → ⊥) → a.by ≡ post.by → MayNote s.cast s.history (owner step) (Some (notes.Act a))
-    → Refines s step (hearing_plan turn from post body a) c
+pub hears_only : (s : World) (c : State) → Represents s c → Holds s → (step : Step) (n : Live) (turn : KeptChange) (from : NodeId) (app : RealAppMessage)
+    (body : BodyChange) (a : Done) → IsAlive s (owner step) n → n.phase ≡ phases.Up → HearsAs s step c n turn from app
+    → a.node ≡ owner step → (IsSaying a.what → ⊥) → a.by ≡ app.by → MayNote s.scene s.history (owner step) (Some (notes.Act a))
+    → Refines s step (hearing_plan turn from app body a) c
 unfolding carried to
-hears_only s c is h step n turn from post body a alive up heard_so own silent by may = record {
-  next = heard_state c o from post heard_so.kept heard_so.links;
+hears_only s c is h step n turn from app body a alive up heard_so own silent by may = record {
+  next = heard_state c o from app heard_so.kept heard_so.links;
   run = heard_so.run;
   fresh = inl heard_so.still;
   stands = leads-represents s step plan c _ is (record {
@@ -119,48 +120,48 @@ hears_only s c is h step n turn from post body a alive up heard_so own silent by
   o = node_index (owner step)
 
   plan : Plan
-  plan = hearing_plan turn from post body a
+  plan = hearing_plan turn from app body a
 
   new : Node
-  new = acted (hearing_of from post ∷ []) (c.node o).count heard_so.kept (c.node o)
+  new = acted (hearing_of from app ∷ []) (c.node o).count heard_so.kept (c.node o)
 
-  was : NodeIn s.cast s.history s.content (owner step) (Some (Alive n)) (c.node (node_index (owner step)))
+  was : NodeIn s.scene s.history s.content (owner step) (Some (Alive n)) (c.node (node_index (owner step)))
   was = alive-is s c is (owner step) n alive
 
   Cause : ℕ → Type 0
-  Cause k = IsKnown k (hearing_of from post ∷ (c.node o).line)
+  Cause k = IsKnown k (hearing_of from app ∷ (c.node o).log)
 
-  becomes : NodeIs s.cast (s.history ++ notes.Act a ∷ []) (owner step) (line (s.history ++ notes.Act a ∷ []) (owner step))
-      (Some (Alive (turned (act_turn body turn (Some (from, post.label)) None) n))) (row_of s.content (owner step))
+  becomes : NodeIs s.scene (s.history ++ notes.Act a ∷ []) (owner step) (log (s.history ++ notes.Act a ∷ []) (owner step))
+      (Some (Alive (updated (act_update body turn (Some (from, app.label)) None) n))) (row_of s.content (owner step))
       (verdict_on s.content (row_of s.content (owner step)).tentative) new
-  becomes = acted-is s c is h (owner step) n body turn (Some (from, post.label)) None a (hearing_of from post ∷ []) (c.node o).count heard_so.kept
+  becomes = acted-is s c is h (owner step) n body turn (Some (from, app.label)) None a (hearing_of from app ∷ []) (c.node o).count heard_so.kept
       alive up (record {
         own = own;
-        sends = none-sent (length s.history + 1) (node_index from) (label_of post.label) post.by;
+        sends = none-sent (length s.history + 1) (node_index from) (label_of app.label) app.by;
         says = λ t. absurd (silent t);
-        hears = λ b x l i. heard-here post.by (node_index from) (label_of post.label) a.by b x l by i;
-        cause = λ some. subst Cause (sym by) (was_heard (record { from = node_index from; label = label_of post.label; among = here }));
+        hears = λ b x l i. heard-here app.by (node_index from) (label_of app.label) a.by b x l by i;
+        cause = λ some. subst Cause (sym by) (was_heard (record { from = node_index from; label = label_of app.label; among = here }));
         talks = (tt, tt);
         counted = was.state.count;
-        sent = sent-unheard s.cast (owner step) (label_at n.sent) post.by (node_index from) (label_of post.label) (c.node o).line was.state.sent;
-        received = heard-more s.cast (owner step) from n.received post.label post.by (c.node o).line heard_so.near was.state.received;
+        sent = sent-unheard s.scene (owner step) (label_at n.sent) app.by (node_index from) (label_of app.label) (c.node o).log was.state.sent;
+        received = heard-more s.scene (owner step) from n.received app.label app.by (c.node o).log heard_so.near was.state.received;
         keeps = heard_so.keeps;
       })
 
 -- ---- the answer that is kept is sent again
 
 pub hears_again : (s : World) (c : State) → Represents s c → Holds s → (step : Step) (n : Live) (turn : KeptChange) (from : NodeId)
-    (post reply : RealPost) (a : Done) → IsAlive s (owner step) n → n.phase ≡ phases.Up → HearsAs s step c n turn from post
-    → a.node ≡ owner step → IsSaying a.what → a.by ≡ post.by → reply.by ≡ length s.history + 1 → reply.label ≡ next_label n
-    → MayNote s.cast s.history (owner step) (Some (notes.Act a)) → Refines s step (answering_plan turn from post reply a) c
-hears_again s c is h step n turn from post reply a alive up heard_so own saying by by_is label_is may = record {
+    (app reply : RealAppMessage) (a : Done) → IsAlive s (owner step) n → n.phase ≡ phases.Up → HearsAs s step c n turn from app
+    → a.node ≡ owner step → IsSaying a.what → a.by ≡ app.by → reply.by ≡ length s.history + 1 → reply.label ≡ next_label n
+    → MayNote s.scene s.history (owner step) (Some (notes.Act a)) → Refines s step (answering_plan turn from app reply a) c
+hears_again s c is h step n turn from app reply a alive up heard_so own saying by by_is label_is may = record {
   next = next;
   run = one_more heard_so.run (sends o (node_index from) reply.by (near-is s (owner step) from heard_so.near)
       (ap (λ (x : Node). x.mode) (at-here o heard c.node) ∙ up-is s c is (owner step) n alive up));
   fresh = inr (heard_so.still, said-next s.history a (owner step) reply.by own saying by_is);
   stands = leads-represents s step plan c next is (record {
     nodes = λ r.
-        let X : Node → Type 0 = λ x. NodeIn s.cast (s.history ++ notes.Act a ∷ []) s.content r (node (applied s step plan) r) x in
+        let X : Node → Type 0 = λ x. NodeIn s.scene (s.history ++ notes.Act a ∷ []) s.content r (node (applied s step plan) r) x in
         subst X (sym (twice o (sending reply.by (node_index from)) heard c.node (node_index r)))
         (nodes-at s step plan c new is may (λ q d. refl) (owner-in s step plan (Some (Alive n)) new alive becomes) r);
     board = is.board;
@@ -175,13 +176,13 @@ hears_again s c is h step n turn from post reply a alive up heard_so own saying 
   o = node_index (owner step)
 
   plan : Plan
-  plan = answering_plan turn from post reply a
+  plan = answering_plan turn from app reply a
 
   heard : Node
-  heard = acted (hearing_of from post ∷ []) (c.node o).count heard_so.kept (c.node o)
+  heard = acted (hearing_of from app ∷ []) (c.node o).count heard_so.kept (c.node o)
 
   middle : State
-  middle = heard_state c o from post heard_so.kept heard_so.links
+  middle = heard_state c o from app heard_so.kept heard_so.links
 
   message : Message
   message = App record { by = reply.by; label = next_of (middle.node o) }
@@ -192,7 +193,7 @@ hears_again s c is h step n turn from post reply a alive up heard_so own saying 
   next : State
   next = change o (sending reply.by (node_index from)) (push o (only (node_index from) message) middle)
 
-  was : NodeIn s.cast s.history s.content (owner step) (Some (Alive n)) (c.node (node_index (owner step)))
+  was : NodeIn s.scene s.history s.content (owner step) (Some (Alive n)) (c.node (node_index (owner step)))
   was = alive-is s c is (owner step) n alive
 
   label : label_of (next_label n) ≡ next_of (c.node o)
@@ -205,30 +206,30 @@ hears_again s c is h step n turn from post reply a alive up heard_so own saying 
   told = Sends reply.by (node_index from) (next_of (c.node o))
 
   Cause : ℕ → Type 0
-  Cause k = IsKnown k (told ∷ hearing_of from post ∷ (c.node o).line)
+  Cause k = IsKnown k (told ∷ hearing_of from app ∷ (c.node o).log)
 
   Sent : Label → Type 0
-  Sent l = LabelsAre s.cast (owner step) (label_at (put no_label n.sent (node_number from) (next_label n))) top_sent
-      (Sends reply.by (node_index from) l ∷ hearing_of from post ∷ (c.node o).line)
+  Sent l = LabelsAre s.scene (owner step) (label_at (put no_label n.sent (node_number from) (next_label n))) top_sent
+      (Sends reply.by (node_index from) l ∷ hearing_of from app ∷ (c.node o).log)
 
-  becomes : NodeIs s.cast (s.history ++ notes.Act a ∷ []) (owner step) (line (s.history ++ notes.Act a ∷ []) (owner step))
-      (Some (Alive (turned (act_turn bodies.Stay turn (Some (from, post.label)) (Some from)) n))) (row_of s.content (owner step))
+  becomes : NodeIs s.scene (s.history ++ notes.Act a ∷ []) (owner step) (log (s.history ++ notes.Act a ∷ []) (owner step))
+      (Some (Alive (updated (act_update bodies.Stay turn (Some (from, app.label)) (Some from)) n))) (row_of s.content (owner step))
       (verdict_on s.content (row_of s.content (owner step)).tentative) new
-  becomes = acted-is s c is h (owner step) n bodies.Stay turn (Some (from, post.label)) (Some from) a (told ∷ hearing_of from post ∷ [])
+  becomes = acted-is s c is h (owner step) n bodies.Stay turn (Some (from, app.label)) (Some from) a (told ∷ hearing_of from app ∷ [])
       (suc (c.node o).count) heard_so.kept alive up (record {
         own = own;
         sends = λ b z l i.
-            one-sent (length s.history + 1) reply.by (node_index from) (node_index from) (next_of (c.node o)) (label_of post.label) post.by b z l i by_is;
-        says = λ t. says-here reply.by (length s.history + 1) (node_index from) (next_of (c.node o)) (hearing_of from post ∷ []) by_is;
+            one-sent (length s.history + 1) reply.by (node_index from) (node_index from) (next_of (c.node o)) (label_of app.label) app.by b z l i by_is;
+        says = λ t. says-here reply.by (length s.history + 1) (node_index from) (next_of (c.node o)) (hearing_of from app ∷ []) by_is;
         hears = λ b x l i.
-            heard-behind reply.by (node_index from) (next_of (c.node o)) post.by (node_index from) (label_of post.label) a.by b x l by i;
-        cause = λ some. subst Cause (sym by) (was_heard (record { from = node_index from; label = label_of post.label; among = there here }));
+            heard-behind reply.by (node_index from) (next_of (c.node o)) app.by (node_index from) (label_of app.label) a.by b x l by i;
+        cause = λ some. subst Cause (sym by) (was_heard (record { from = node_index from; label = label_of app.label; among = there here }));
         talks = (tt, (tt, tt));
         counted = let e = was.state.count in omega (arith, e);
-        sent = subst Sent label (sent-more s.cast (owner step) from n.sent (next_label n) reply.by (hearing_of from post ∷ (c.node o).line) heard_so.near
-            (sent-unheard s.cast (owner step) (label_at n.sent) post.by (node_index from) (label_of post.label) (c.node o).line was.state.sent));
-        received = heard-unsent s.cast (owner step) (label_at (put no_label n.received (node_number from) post.label)) reply.by (node_index from)
-            (next_of (c.node o)) (hearing_of from post ∷ (c.node o).line)
-            (heard-more s.cast (owner step) from n.received post.label post.by (c.node o).line heard_so.near was.state.received);
+        sent = subst Sent label (sent-more s.scene (owner step) from n.sent (next_label n) reply.by (hearing_of from app ∷ (c.node o).log) heard_so.near
+            (sent-unheard s.scene (owner step) (label_at n.sent) app.by (node_index from) (label_of app.label) (c.node o).log was.state.sent));
+        received = heard-unsent s.scene (owner step) (label_at (put no_label n.received (node_number from) app.label)) reply.by (node_index from)
+            (next_of (c.node o)) (hearing_of from app ∷ (c.node o).log)
+            (heard-more s.scene (owner step) from n.received app.label app.by (c.node o).log heard_so.near was.state.received);
         keeps = heard_so.keeps;
       })

@@ -1,42 +1,44 @@
 -- A node that is up joins a check, and asks its cohort: the machine joins. Where the cohort is empty the node votes yes at
 -- once: the machine agrees.
+-- Cited by Forcing, Refining.
 use Rattle.std.proofs.Common.{◌≡◌, Bool, true, false, IsTrue, List, [], ◌∷◌, ◌++◌, Option, Some, None, refl, sym, ap, subst, ◌∙◌, append-nil, inl}
 use Rattle.std.specs.Prelude.{if◌then◌else◌}
 use Rattle.std.specs.List.{AllByRecursion}
 use Rattle.kt_tuple.specs.declared.node.NodeId.{NodeId}
 use Rattle.kt_tuple.specs.Node.{node_index, node_eq}
-use Rattle.kt_history.specs.Line.{line}
+use Rattle.kt_history.specs.Log.{log}
 use Rattle.kt_store.specs.declared.rows.Verdict.{Verdict as RealVerdict}
-use Rattle.kt_store.specs.Content.{row_of, permanent_marks, verdict_of}
+use Rattle.kt_store.specs.Content.{row_of, permanent_header, verdict_of}
 use Rattle.kt_vote.specs.declared.vote.Vote.{Vote as RealVote}
 use Rattle.kt_vote.specs.Poll.{Poll, asking_poll}
-use Rattle.kt_node.specs.declared.message.Ask.{Ask as RealAsk}
-use Rattle.kt_node.specs.declared.message.Message.{Message as RealMessage}
-use Rattle.kt_node.specs.declared.message.Message.TheVariants as messages
-use Rattle.kt_node.specs.declared.live.Phase.TheVariants as phases
-use Rattle.kt_node.specs.declared.change.Change.TheVariants as changes
-use Rattle.kt_node.specs.declared.plan.Plan.{Plan}
-use Rattle.kt_node.specs.declared.plan.Write.TheVariants as writes
+use Rattle.kt_state.specs.declared.message.Ask.{Ask as RealAsk}
+use Rattle.kt_state.specs.declared.message.Message.{Message as RealMessage}
+use Rattle.kt_state.specs.declared.message.Message.TheVariants as messages
+use Rattle.kt_state.specs.declared.live.Phase.TheVariants as phases
+use Rattle.kt_state.specs.declared.change.Change.TheVariants as changes
+use Rattle.kt_state.specs.declared.plan.Plan.{Plan}
+use Rattle.kt_state.specs.declared.plan.Write.TheVariants as writes
 use Rattle.kt_node.specs.declared.reaction.Reaction.{Reaction}
 use Rattle.kt_node.specs.declared.reaction.Reaction.TheVariants as reactions
-use Rattle.kt_node.specs.Labels.{up_to}
-use Rattle.kt_node.specs.Node.{Live, Alive, node_number}
-use Rattle.kt_node.specs.Plan.{no_turn}
-use Rattle.kt_node.specs.Stored.{is_undecided, sent_in}
-use Rattle.kt_node.specs.Voting.{casting, poll_after, voted, vote_for, votes}
-use Rattle.kt_node.specs.Joining.{asker_of, is_in_cohort, check_asks, checkpoint_now, join_check_plan}
-use Rattle.kt_node.specs.Turning.{turned}
+use Rattle.kt_state.specs.Labels.{up_to}
+use Rattle.kt_state.specs.Node.{Live, Alive, node_number}
+use Rattle.kt_state.specs.Updating.{no_update}
+use Rattle.kt_state.specs.Stored.{is_undecided, sent_in}
+use Rattle.kt_state.specs.Voting.{casting, poll_after, voted, vote_for, votes}
+use Rattle.kt_state.specs.Asking.{check_asks}
+use Rattle.kt_node.specs.Joining.{asker_of, is_in_cohort, checkpoint_now, join_check_plan}
+use Rattle.kt_state.specs.Updating.{updated}
 use Rattle.kt_node.specs.Arrivals.{check_in, check_reaction}
-use Rattle.kt_world.specs.declared.step.Step.TheVariants.{Deliver}
-use Rattle.kt_world.specs.State.{State as World, node, view}
-use Rattle.kt_world.specs.Told.{told, tentative_in}
-use Rattle.kt_world.specs.Effect.{applied}
-use Rattle.kt_world.specs.Writing.{content_after}
-use Rattle.kt_world.specs.inner.Ready.{AreNeighbours}
-use Rattle.kt_lines.proofs.Shared.{all-append}
-use Rattle.kt_world.proofs.Shared.{IsAlive, Comes, backed-in, Holds, neighbour-node, neighbours-turned}
+use Rattle.kt_scenario.specs.declared.step.Step.TheVariants.{Deliver}
+use Rattle.kt_model.specs.State.{State as World, node, view}
+use Rattle.kt_model.specs.StoreReads.{store_reads, tentative_in}
+use Rattle.kt_model.specs.Effect.{applied}
+use Rattle.kt_model.specs.Writing.{content_after}
+use Rattle.kt_model.specs.auxiliary.Ready.{AreNeighbours}
+use Rattle.kt_logs.proofs.Shared.{all-append}
+use Rattle.kt_model.proofs.Shared.{IsAlive, Comes, backed-in, Holds, neighbour-node, neighbours-turned}
 use Rattle.kt_protocol.specs.Labels.{Under, at}
-use Rattle.kt_protocol.specs.Lines.{IsIn}
+use Rattle.kt_protocol.specs.Logs.{IsIn}
 use Rattle.kt_protocol.specs.Machine.{Check, Ballot, Within, Message, Mode, Mark, Vote, Node, State}
 use Rattle.kt_protocol.specs.Steps.{joining, sifting, asking, joins, MustJoin, change, push, pull}
 use Rattle.kt_protocol.specs.Runs.{nothing_done, one_more}
@@ -70,13 +72,13 @@ joins-above false c r e = absurd (cc (e))
 -- the ballot of who joins
 abbrev joined_poll : World → Live → NodeId → NodeId → RealAsk → Poll
 joined_poll s n p q ask =
-    asking_poll ask.instance n.incarnation (Some (asker_of p ask)) (chosen s.cast q (is_in_cohort (permanent_marks s.content q) n))
+    asking_poll ask.instance n.incarnation (Some (asker_of p ask)) (chosen s.scene q (is_in_cohort (permanent_header s.content q) n))
 
 -- the plan, with the vote that is cast at once
 abbrev plan_with : World → Live → NodeId → NodeId → RealAsk → Option (NodeId × RealVote) → Plan
 plan_with s n p q ask own =
     let b = joined_poll s n p q ask in record {
-      change = changes.Turn record no_turn { phase = Some (phases.Held (poll_after b own)) };
+      change = changes.Update record no_update { phase = Some (phases.Held (poll_after b own)) };
       send = check_asks b.instance n b.asked ++ votes own;
       note = None;
       write = Some (writes.PutTentative ask.instance (checkpoint_now (view s q) n));
@@ -104,22 +106,22 @@ asks-alone r asks own =
 -- the machine's node behind it
 abbrev joined : World → State → NodeId → NodeId → Live → RealAsk → Node
 joined s c p q n ask =
-    joining (Check ask.instance) (Some (a_key (node_index p) ask.incarnation)) (cohort s.cast q (is_in_cohort (permanent_marks s.content q) n))
+    joining (Check ask.instance) (Some (a_key (node_index p) ask.incarnation)) (cohort s.scene q (is_in_cohort (permanent_header s.content q) n))
     (sifting (Check ask.instance) (node_index p) (label_of ask.label) (c.node (node_index q)))
 
 abbrev joined_ballot : World → NodeId → NodeId → Live → RealAsk → Ballot
 joined_ballot s p q n ask = record {
   parent = Some (a_key (node_index p) ask.incarnation);
-  awaited = cohort s.cast q (is_in_cohort (permanent_marks s.content q) n);
+  awaited = cohort s.scene q (is_in_cohort (permanent_header s.content q) n);
   refused = false;
   voted = false;
 }
 
-ballot-is : (s : World) (c : State) → Represents s c → (p q : NodeId) (n : Live) (ask : RealAsk) → AreNeighbours s.cast p q → IsAlive s q n
+ballot-is : (s : World) (c : State) → Represents s c → (p q : NodeId) (n : Live) (ask : RealAsk) → AreNeighbours s.scene p q → IsAlive s q n
     → BallotIs (joined_poll s n p q ask) (c.node (node_index q)).life (joined_ballot s p q n ask)
 ballot-is s c is p q n ask near alive = record {
   parent = refl;
-  awaited = λ r. chosen-cohort s.cast q (is_in_cohort (permanent_marks s.content q) n) r (neighbour-node s.cast p q near);
+  awaited = λ r. chosen-cohort s.scene q (is_in_cohort (permanent_header s.content q) n) r (neighbour-node s.scene p q near);
   refused = refl;
   voted = λ a e. refl;
   asks_in = (alive-is s c is q n alive).state.life;
@@ -129,11 +131,11 @@ ballot-is s c is p q n ask near alive = record {
 held-is-node : (s : World) (c : State) → Represents s c → Holds s → (p q : NodeId) (n : Live) (ask : RealAsk) → IsAlive s q n → n.phase ≡ phases.Up
     → IsTrue (is_undecided (verdict_of s.content ask.instance))
     → (b : Poll) (mode : Mode) (of : List Vote) (said : List Mark) → PhaseIs (phases.Held b) (c.node (node_index q)).life mode
-    → NodeIs s.cast s.history q (line s.history q) (Some (Alive (turned record no_turn { phase = Some (phases.Held b) } n)))
+    → NodeIs s.scene s.history q (log s.history q) (Some (Alive (updated record no_update { phase = Some (phases.Held b) } n)))
     (record (row_of s.content q) { tentative = Some record { instance = ask.instance; checkpoint = checkpoint_now (view s q) n } })
     (verdict_of s.content ask.instance) (record (joined s c p q n ask) { mode = mode; votes = of; said = said })
 held-is-node s c is h p q n ask alive up opened b mode of said phase = subst Now (sym (opened-is (verdict_of s.content ask.instance) opened)) (record {
-  line = was.line;
+  log = was.log;
   life = was.life;
   state = record {
     phase = phase;
@@ -143,22 +145,22 @@ held-is-node s c is h p q n ask alive up opened b mode of said phase = subst Now
     received = was.state.received;
     kept = keeps-all s c is p q n ask alive;
   };
-  perm = stored-stands s q (line s.history q) (c.node (node_index q)).perm none was.perm;
+  perm = stored-stands s q (log s.history q) (c.node (node_index q)).perm none was.perm;
   tent = record {
     instance = refl;
     whole = refl;
-    stands = taken-stands s.cast s.history q n (c.node (node_index q)).line (view s q).acts was.line was.state.sent was.state.received;
+    stands = taken-stands s.scene s.history q n (c.node (node_index q)).log (view s q).acts was.log was.state.sent was.state.received;
   };
   lower = was.lower;
 }) where
-  was : NodeIn s.cast s.history s.content q (Some (Alive n)) (c.node (node_index q))
+  was : NodeIn s.scene s.history s.content q (Some (Alive n)) (c.node (node_index q))
   was = alive-is s c is q n alive
 
   none : (row_of s.content q).tentative ≡ None
   none = backed-in s h.backed q n phases.Up alive up
 
   Now : Option RealVerdict → Type 0
-  Now v = NodeIs s.cast s.history q (line s.history q) (Some (Alive (turned record no_turn { phase = Some (phases.Held b) } n)))
+  Now v = NodeIs s.scene s.history q (log s.history q) (Some (Alive (updated record no_update { phase = Some (phases.Held b) } n)))
       (record (row_of s.content q) { tentative = Some record { instance = ask.instance; checkpoint = checkpoint_now (view s q) n } })
       v (record (joined s c p q n ask) { mode = mode; votes = of; said = said })
 
@@ -166,11 +168,11 @@ held-is-node s c is h p q n ask alive up opened b mode of said phase = subst Now
 
 abbrev behind : World → State → (p q : NodeId) → Live → RealAsk → List Message → State
 behind s c p q n ask rest =
-    let chooses = is_in_cohort (permanent_marks s.content q) n in
+    let chooses = is_in_cohort (permanent_header s.content q) n in
     change (node_index q)
-    (λ x. joining (Check ask.instance) (Some (a_key (node_index p) ask.incarnation)) (cohort s.cast q chooses)
+    (λ x. joining (Check ask.instance) (Some (a_key (node_index p) ask.incarnation)) (cohort s.scene q chooses)
     (sifting (Check ask.instance) (node_index p) (label_of ask.label) x))
-    (push (node_index q) (asking (Check ask.instance) (cohort s.cast q chooses) (c.node (node_index q))) (pull (node_index p) (node_index q) rest c))
+    (push (node_index q) (asking (Check ask.instance) (cohort s.scene q chooses) (c.node (node_index q))) (pull (node_index p) (node_index q) rest c))
 
 -- what is known where it joins
 record Joins (s : World) (c : State) (p q : NodeId) (n : Live) (ask : RealAsk) : Type 0 where
@@ -178,26 +180,26 @@ record Joins (s : World) (c : State) (p q : NodeId) (n : Live) (ask : RealAsk) :
   alive : IsAlive s q n
   up : n.phase ≡ phases.Up
   opened : IsTrue (is_undecided (verdict_of s.content ask.instance))
-  above : up_to ask.label (sent_in (permanent_marks s.content q) (node_number p)) ≡ false
+  above : up_to ask.label (sent_in (permanent_header s.content q) (node_number p)) ≡ false
 
 pub stored-is : (s : World) (c : State) → Represents s c → Holds s → (q : NodeId) (n : Live) → IsAlive s q n → n.phase ≡ phases.Up
-    → Stands s.cast s.history q (line s.history q) (row_of s.content q).permanent (c.node (node_index q)).perm
+    → Stands s.scene s.history q (log s.history q) (row_of s.content q).permanent (c.node (node_index q)).perm
 stored-is s c is h q n alive up =
-    stored-stands s q (line s.history q) (c.node (node_index q)).perm (backed-in s h.backed q n phases.Up alive up) (is.nodes q).perm
+    stored-stands s q (log s.history q) (c.node (node_index q)).perm (backed-in s h.backed q n phases.Up alive up) (is.nodes q).perm
 
 joins-step : (s : World) (c : State) → Represents s c → Holds s → (p q : NodeId) (n : Live) (ask : RealAsk) → (j : Joins s c p q n ask)
-    → QuietStep (peers s.cast) c (behind s c p q n ask (carried j.comes.later))
+    → QuietStep (peers s.scene) c (behind s c p q n ask (carried j.comes.later))
 joins-step s c is h p q n ask j =
     let stored = stored-is s c is h q n j.alive j.up in
     let must : MustJoin (Check ask.instance) (c.node (node_index q)) (node_index p) (label_of ask.label) =
-    subst (λ l. Under l (label_of ask.label)) (stored.sent p (neighbours-turned s.cast p q j.comes.neighbours))
-    (up_to-false (label_of ask.label) (label_of (sent_in (permanent_marks s.content q) (node_number p))) j.above) in
+    subst (λ l. Under l (label_of ask.label)) (stored.sent p (neighbours-turned s.scene p q j.comes.neighbours))
+    (up_to-false (label_of ask.label) (label_of (sent_in (permanent_header s.content q) (node_number p))) j.above) in
     record {
       step = joins (node_index q) (node_index p) (Check ask.instance) (label_of ask.label) ask.incarnation (carried j.comes.later)
-          (cohort s.cast q (is_in_cohort (permanent_marks s.content q) n))
+          (cohort s.scene q (is_in_cohort (permanent_header s.content q) n))
           (near-is s p q j.comes.neighbours) (comes-is s c is p q (messages.CheckAsk ask) j.comes) (up-is s c is q n j.alive j.up)
           (check-open s c is ask.instance j.opened) must
-          (cohort-is s q n (permanent_marks s.content q) ask.instance (c.node (node_index q)) (alive-is s c is q n j.alive).state.received stored.received);
+          (cohort-is s q n (permanent_header s.content q) ask.instance (c.node (node_index q)) (alive-is s c is q n j.alive).state.received stored.received);
       quiet = tt;
     }
 
@@ -205,17 +207,17 @@ joins-links : (s : World) (c : State) → Represents s c → (p q : NodeId) (n :
     → (own : Option (NodeId × RealVote))
     → LinksLead s (Deliver p q) (plan_with s n p q ask own) c (behind s c p q n ask (carried j.comes.later)).link
 joins-links s c is p q n ask j own =
-    let permanent = permanent_marks s.content q in
+    let permanent = permanent_header s.content q in
     let was = alive-is s c is q n j.alive in
     delivered s p q (plan_with s n p q ask own) c (messages.CheckAsk ask)
-    (asking (Check ask.instance) (cohort s.cast q (is_in_cohort permanent n)) (c.node (node_index q))) is j.comes
+    (asking (Check ask.instance) (cohort s.scene q (is_in_cohort permanent n)) (c.node (node_index q))) is j.comes
     (λ r near. check-asks-to s q r n permanent ask.instance (c.node (node_index q)) near was.state.received was.state.life
-    ∙ sym (asks-alone r (check_asks ask.instance n (chosen s.cast q (is_in_cohort permanent n))) own))
+    ∙ sym (asks-alone r (check_asks ask.instance n (chosen s.scene q (is_in_cohort permanent n))) own))
 
 joins-cast : (s : World) (n : Live) (p q : NodeId) (ask : RealAsk) (own : Option (NodeId × RealVote)) (of : List Vote)
     → AllByRecursion (CastSo of) (votes own) → AllByRecursion (CastSo of) (plan_with s n p q ask own).send
 joins-cast s n p q ask own of cast =
-    let asked = chosen s.cast q (is_in_cohort (permanent_marks s.content q) n) in
+    let asked = chosen s.scene q (is_in_cohort (permanent_header s.content q) n) in
     all-append (CastSo of) (check_asks ask.instance n asked) (votes own) (check-asks-cast of ask.instance n asked) cast
 
 joins-so : (s : World) (c : State) → Represents s c → Holds s → (p q : NodeId) (n : Live) (ask : RealAsk) → Joins s c p q n ask
@@ -257,7 +259,7 @@ joins-so s c is h p q n ask j own (due parent agreed has unvoted outcome) =
     let next : State = change o (cast_node (Check ask.instance) ballot key agreed) middle in
     let is_ballot = ballot-is s c is p q n ask j.comes.neighbours j.alive in
     let last =
-    casts-step (peers s.cast) middle o (Check ask.instance) b (c.node o).life ballot parent agreed
+    casts-step (peers s.scene) middle o (Check ask.instance) b (c.node o).life ballot parent agreed
     (ap (λ (x : Node). x.mode) (at-here o first c.node)) is_ballot has unvoted (λ e. outcome ∙ ap Some e) in
     record {
       next = next;
@@ -266,7 +268,7 @@ joins-so s c is h p q n ask j own (due parent agreed has unvoted outcome) =
       stands = leads-represents s (Deliver p q) plan c next is (record {
         nodes = λ r.
             let X : Node → Type 0 =
-            λ x. NodeIn s.cast s.history (content_after q plan.write s.content) r (node (applied s (Deliver p q) plan) r) x in
+            λ x. NodeIn s.scene s.history (content_after q plan.write s.content) r (node (applied s (Deliver p q) plan) r) x in
             subst X (sym (twice o (cast_node (Check ask.instance) ballot key agreed) first c.node (node_index r)))
             (nodes-at s (Deliver p q) plan c new is tt (λ k d. refl) (owner-in s (Deliver p q) plan (Some (Alive n)) new j.alive
             (held_voted agreed key ballot is_ballot)) r);
@@ -287,8 +289,8 @@ joins-so s c is h p q n ask j own (due parent agreed has unvoted outcome) =
     -- it has voted at once
     held_voted : (agreed : Bool) (key : Rattle.kt_protocol.specs.Machine.Key) (ballot : Ballot)
         → BallotIs (joined_poll s n p q ask) (c.node (node_index q)).life ballot
-        → NodeIs s.cast s.history q (line s.history q)
-        (Some (Alive (turned record no_turn { phase = Some (phases.Held (voted (joined_poll s n p q ask))) } n)))
+        → NodeIs s.scene s.history q (log s.history q)
+        (Some (Alive (updated record no_update { phase = Some (phases.Held (voted (joined_poll s n p q ask))) } n)))
         (record (row_of s.content q) { tentative = Some record { instance = ask.instance; checkpoint = checkpoint_now (view s q) n } })
         (verdict_of s.content ask.instance) (cast_node (Check ask.instance) ballot key agreed (joined s c p q n ask))
     held_voted true key ballot of =
@@ -309,9 +311,10 @@ joins-so s c is h p q n ask j own (due parent agreed has unvoted outcome) =
 -- ---- the leaf
 
 pub joins_check : (s : World) (c : State) → Represents s c → Holds s → (p q : NodeId) (n : Live) (ask : RealAsk) → Comes s p q (messages.CheckAsk ask)
-    → IsAlive s q n → n.phase ≡ phases.Up → IsTrue (is_undecided (told s (Deliver p q)).verdict)
-    → check_reaction n p ask (told s (Deliver p q)).verdict (told s (Deliver p q)).permanent (told s (Deliver p q)).tentative ≡ reactions.Joins
-    → Refines s (Deliver p q) (join_check_plan (view s q) n p ask (told s (Deliver p q)).permanent) c
+    → IsAlive s q n → n.phase ≡ phases.Up → IsTrue (is_undecided (store_reads s (Deliver p q)).verdict)
+    → check_reaction n p ask (store_reads s (Deliver p q)).verdict (store_reads s (Deliver p q)).permanent (store_reads s (Deliver p q)).tentative
+    ≡ reactions.Joins
+    → Refines s (Deliver p q) (join_check_plan (view s q) n p ask (store_reads s (Deliver p q)).permanent) c
 joins_check s c is h p q n ask comes alive up undecided reacts =
     joins-so s c is h p q n ask
     (record {
@@ -319,7 +322,7 @@ joins_check s c is h p q n ask comes alive up undecided reacts =
       alive = alive;
       up = up;
       opened = asked-open s p q (messages.CheckAsk ask) ask.instance comes refl undecided;
-      above = joins-above (is_undecided (told s (Deliver p q)).verdict) (up_to ask.label (sent_in (permanent_marks s.content q) (node_number p)))
+      above = joins-above (is_undecided (store_reads s (Deliver p q)).verdict) (up_to ask.label (sent_in (permanent_header s.content q) (node_number p)))
           (check_in n p ask (tentative_in s.content q) n.phase) reacts;
     })
     (casting (joined_poll s n p q ask)) (is_due (joined_poll s n p q ask))

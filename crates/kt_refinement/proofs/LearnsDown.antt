@@ -1,29 +1,30 @@
 -- A node that is down learns the verdict on its tentative checkpoint. Of Yes the machine knew since it was written; where
--- it is No, the line is cut to the permanent checkpoint, and the machine fails once more.
+-- it is No, the log is cut to the permanent checkpoint, and the machine fails once more.
+-- Cited by Refining.
 use Rattle.std.proofs.Common.{◌≡◌, ℕ, true, false, IsTrue, Option, Some, None, refl, sym, ap, subst, ◌∙◌, inl}
 use Rattle.std.specs.Prelude.{unwrap_or}
 use Rattle.std.specs.Option.{option_map}
 use Rattle.kt_tuple.specs.declared.node.NodeId.{NodeId}
 use Rattle.kt_tuple.specs.Node.{node_index}
-use Rattle.kt_history.specs.Line.{line}
-use Rattle.kt_ckpt.specs.Marks.{marks_of}
+use Rattle.kt_history.specs.Log.{log}
+use Rattle.kt_ckpt.specs.Header.{header_of}
 use Rattle.kt_store.specs.declared.rows.NodeRow.{NodeRow}
 use Rattle.kt_store.specs.declared.rows.Verdict.{Verdict as RealVerdict}
 use Rattle.kt_store.specs.Verdict.{verdict_from}
 use Rattle.kt_store.specs.Content.{row_of, verdict_on}
-use Rattle.kt_node.specs.declared.plan.Plan.{Plan}
-use Rattle.kt_node.specs.Node.{Node as RealNode, Down as IsDownNode}
-use Rattle.kt_node.specs.Stored.{acts_in}
+use Rattle.kt_state.specs.declared.plan.Plan.{Plan}
+use Rattle.kt_state.specs.Node.{Node as RealNode, Down as IsDownNode}
+use Rattle.kt_state.specs.Stored.{acts_in}
 use Rattle.kt_node.specs.Learning.{promote_down_plan, discard_down_plan}
 use Rattle.kt_node.specs.Deciding.{settled}
-use Rattle.kt_world.specs.declared.step.Step.TheVariants.{Learn}
-use Rattle.kt_world.specs.Cast.{is_node}
-use Rattle.kt_world.specs.Cut.{acts_held, permanent_by}
-use Rattle.kt_world.specs.State.{State as World, node, view}
-use Rattle.kt_world.specs.Told.{told, to_learn}
-use Rattle.kt_world.specs.Effect.{applied}
-use Rattle.kt_world.specs.Writing.{content_after}
-use Rattle.kt_world.proofs.Shared.{IsDown, settled-is, held_marks, has_fallen, MayNote, Holds}
+use Rattle.kt_scenario.specs.declared.step.Step.TheVariants.{Learn}
+use Rattle.kt_scenario.specs.Scene.{is_node}
+use Rattle.kt_model.specs.Cut.{acts_held, permanent_by}
+use Rattle.kt_model.specs.State.{State as World, node, view}
+use Rattle.kt_model.specs.StoreReads.{store_reads, to_learn}
+use Rattle.kt_model.specs.Effect.{applied}
+use Rattle.kt_model.specs.Writing.{content_after}
+use Rattle.kt_model.proofs.Shared.{IsDown, settled-is, held_header, has_fallen, MayNote, Holds}
 use Rattle.kt_protocol.specs.Machine.{Node, State}
 use Rattle.kt_protocol.specs.Steps.{falling, cutting, fails, change}
 use Rattle.kt_protocol.specs.Runs.{nothing_done, one_more}
@@ -35,11 +36,11 @@ use Rattle.kt_refinement.proofs.Falling.{fallen-is}
 use Rattle.kt_refinement.proofs.Releases.{undecided-none, permanent-left, dealt-with, none-held}
 
 -- the verdict that it learns is the one of its tentative checkpoint
-learnt-down : (s : World) (p : NodeId) → node s p ≡ Some IsDownNode → (told s (Learn p)).verdict ≡ verdict_on s.content (row_of s.content p).tentative
+learnt-down : (s : World) (p : NodeId) → node s p ≡ Some IsDownNode → (store_reads s (Learn p)).verdict ≡ verdict_on s.content (row_of s.content p).tentative
 learnt-down s p fallen = ap (λ x. to_learn s.content p (unwrap_or x IsDownNode)) fallen
 
-pub learns_yes_down : (s : World) (c : State) → Represents s c → Holds s → (p : NodeId) → IsTrue (is_node s.cast p) → IsDown s p
-    → settled (told s (Learn p)).verdict ≡ Some true → Refines s (Learn p) promote_down_plan c
+pub learns_yes_down : (s : World) (c : State) → Represents s c → Holds s → (p : NodeId) → IsTrue (is_node s.scene p) → IsDown s p
+    → settled (store_reads s (Learn p)).verdict ≡ Some true → Refines s (Learn p) promote_down_plan c
 unfolding carried to
 learns_yes_down s c is h p there down verdict = record {
   next = c;
@@ -47,10 +48,10 @@ learns_yes_down s c is h p there down verdict = record {
   fresh = inl tt;
   stands = leads-represents s (Learn p) plan c c is (record {
     nodes = λ q.
-        let X : Node → Type 0 = λ x. NodeIn s.cast s.history (content_after p plan.write s.content) q (node (applied s (Learn p) plan) q) x in
+        let X : Node → Type 0 = λ x. NodeIn s.scene s.history (content_after p plan.write s.content) q (node (applied s (Learn p) plan) q) x in
         subst X (sym (at-same o c.node (node_index q)))
         (nodes-at s (Learn p) plan c (c.node o) is tt (λ r d. refl) (owner-in s (Learn p) plan (Some IsDownNode) (c.node o) fallen
-        (dealt-with s.cast s.history p (line s.history p) _ (row_of s.content p) _ (c.node o) true is_v
+        (dealt-with s.scene s.history p (log s.history p) _ (row_of s.content p) _ (c.node o) true is_v
         (subst Was fallen (is.nodes p)))) q);
     board = is.board;
     links = links-idle s (Learn p) plan c (λ x y e. absurd (cc (e))) (λ r near. refl);
@@ -68,14 +69,14 @@ learns_yes_down s c is h p there down verdict = record {
   fallen = has_fallen s h.ready p there down
 
   is_v : verdict_on s.content (row_of s.content p).tentative ≡ Some (verdict_from true)
-  is_v = sym (learnt-down s p fallen) ∙ settled-is (told s (Learn p)).verdict true verdict
+  is_v = sym (learnt-down s p fallen) ∙ settled-is (store_reads s (Learn p)).verdict true verdict
 
   Was : Option RealNode → Type 0
-  Was r = NodeIn s.cast s.history s.content p r (c.node (node_index p))
+  Was r = NodeIn s.scene s.history s.content p r (c.node (node_index p))
 
-pub learns_no_down : (s : World) (c : State) → Represents s c → Holds s → (p : NodeId) → IsTrue (is_node s.cast p) → IsDown s p
-    → settled (told s (Learn p)).verdict ≡ Some false → MayNote s.cast s.history p (discard_down_plan (view s p) (told s (Learn p)).stored).note
-    → Refines s (Learn p) (discard_down_plan (view s p) (told s (Learn p)).stored) c
+pub learns_no_down : (s : World) (c : State) → Represents s c → Holds s → (p : NodeId) → IsTrue (is_node s.scene p) → IsDown s p
+    → settled (store_reads s (Learn p)).verdict ≡ Some false → MayNote s.scene s.history p (discard_down_plan (view s p) (store_reads s (Learn p)).stored).note
+    → Refines s (Learn p) (discard_down_plan (view s p) (store_reads s (Learn p)).stored) c
 unfolding carried to
 learns_no_down s c is h p there down verdict may = record {
   next = next;
@@ -83,7 +84,7 @@ learns_no_down s c is h p there down verdict may = record {
   fresh = inl (tt, tt);
   stands = leads-represents s (Learn p) plan c next is (record {
     nodes = nodes-at s (Learn p) plan c new is may (λ r d. refl) (owner-in s (Learn p) plan (Some IsDownNode) new fallen
-        (dealt-with s.cast _ p _ _ row _ new false is_v (fallen-is s c is p keep none same)));
+        (dealt-with s.scene _ p _ _ row _ new false is_v (fallen-is s c is p keep none same)));
     board = is.board;
     links = links-idle s (Learn p) plan c (λ x y e. absurd (cc (e))) (λ r near. refl);
     votes = votes-at c o new (λ v i. i);
@@ -91,7 +92,7 @@ learns_no_down s c is h p there down verdict may = record {
   });
 } where
   plan : Plan
-  plan = discard_down_plan (view s p) (told s (Learn p)).stored
+  plan = discard_down_plan (view s p) (store_reads s (Learn p)).stored
 
   o : ℕ
   o = node_index p
@@ -100,7 +101,7 @@ learns_no_down s c is h p there down verdict may = record {
   row = row_of s.content p
 
   keep : ℕ
-  keep = acts_in (option_map marks_of (row_of s.content p).permanent)
+  keep = acts_in (option_map header_of (row_of s.content p).permanent)
 
   new : Node
   new = falling (cutting (c.node o))
@@ -112,11 +113,11 @@ learns_no_down s c is h p there down verdict may = record {
   fallen = has_fallen s h.ready p there down
 
   is_v : verdict_on s.content (row_of s.content p).tentative ≡ Some (verdict_from false)
-  is_v = sym (learnt-down s p fallen) ∙ settled-is (told s (Learn p)).verdict false verdict
+  is_v = sym (learnt-down s p fallen) ∙ settled-is (store_reads s (Learn p)).verdict false verdict
 
   none : Rattle.kt_refinement.proofs.Represents.undecided (verdict_on s.content row.tentative) row.tentative ≡ None
   none = ap (λ (v : Option RealVerdict). Rattle.kt_refinement.proofs.Represents.undecided v row.tentative) is_v ∙ undecided-none false row.tentative
 
   same : keep ≡ acts_held (permanent_by (verdict_on s.content row.tentative) row.tentative row.permanent)
-  same = held_marks row.permanent
+  same = held_header row.permanent
       ∙ ap acts_held (sym (ap (λ (v : Option RealVerdict). permanent_by v row.tentative row.permanent) is_v ∙ permanent-left false row.tentative row.permanent))

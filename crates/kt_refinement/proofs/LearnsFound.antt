@@ -1,31 +1,32 @@
 -- A node that is down learns what became of a tentative checkpoint that was found of it: of that the settled world has
 -- nothing any more, so the machine does nothing, or fails once more, which leaves it as it is.
+-- Cited by Resuming.
 use Rattle.std.proofs.Common.{◌≡◌, ℕ, [], Option, Some, None, refl, sym, ap, subst, ◌∙◌, inl, inr}
 use Rattle.std.specs.Option.{option_map}
 use Rattle.kt_tuple.specs.declared.node.NodeId.{NodeId}
 use Rattle.kt_tuple.specs.Node.{node_index}
-use Rattle.kt_history.specs.Line.{line}
+use Rattle.kt_history.specs.Log.{log}
 use Rattle.kt_ckpt.specs.declared.ckpt.Ckpt.{Ckpt}
-use Rattle.kt_ckpt.specs.Marks.{marks_of}
+use Rattle.kt_ckpt.specs.Header.{header_of}
 use Rattle.kt_store.specs.declared.rows.NodeRow.{NodeRow}
 use Rattle.kt_store.specs.declared.rows.Tentative.{Tentative}
 use Rattle.kt_store.specs.declared.rows.Verdict.{Verdict as RealVerdict}
 use Rattle.kt_store.specs.declared.rows.Verdict.TheVariants as verdicts
 use Rattle.kt_store.specs.Content.{row_of, verdict_on}
-use Rattle.kt_node.specs.declared.change.Change.TheVariants as changes
-use Rattle.kt_node.specs.declared.plan.Plan.{Plan}
-use Rattle.kt_node.specs.declared.plan.Write.TheVariants as writes
-use Rattle.kt_node.specs.Node.{Node as RealNode, Down as IsDownNode}
-use Rattle.kt_node.specs.Stored.{acts_in}
+use Rattle.kt_state.specs.declared.change.Change.TheVariants as changes
+use Rattle.kt_state.specs.declared.plan.Plan.{Plan}
+use Rattle.kt_state.specs.declared.plan.Write.TheVariants as writes
+use Rattle.kt_state.specs.Node.{Node as RealNode, Down as IsDownNode}
+use Rattle.kt_state.specs.Stored.{acts_in}
 use Rattle.kt_node.specs.Learning.{discard_down_plan}
-use Rattle.kt_world.specs.declared.step.Step.{Step}
-use Rattle.kt_world.specs.declared.step.Step.TheVariants.{Learn}
-use Rattle.kt_world.specs.Cut.{acts_held, permanent_by}
-use Rattle.kt_world.specs.State.{State as World, node, view}
-use Rattle.kt_world.specs.Told.{stored_of}
-use Rattle.kt_world.specs.Effect.{applied}
-use Rattle.kt_world.specs.Writing.{content_after}
-use Rattle.kt_world.proofs.Shared.{held_marks, has_fallen, MayNote, Kept, Learns, kept-holds, is-quiet, found-bare, settled}
+use Rattle.kt_scenario.specs.declared.step.Step.{Step}
+use Rattle.kt_scenario.specs.declared.step.Step.TheVariants.{Learn}
+use Rattle.kt_model.specs.Cut.{acts_held, permanent_by}
+use Rattle.kt_model.specs.State.{State as World, node, view}
+use Rattle.kt_model.specs.StoreReads.{stored_of}
+use Rattle.kt_model.specs.Effect.{applied}
+use Rattle.kt_model.specs.Writing.{content_after}
+use Rattle.kt_model.proofs.Shared.{held_header, has_fallen, MayNote, Kept, Learns, kept-holds, is-quiet, found-bare, settled}
 use Rattle.kt_protocol.specs.Machine.{Node, State}
 use Rattle.kt_protocol.specs.Steps.{falling, cutting, fails, change}
 use Rattle.kt_protocol.specs.Runs.{nothing_done, one_more}
@@ -53,7 +54,7 @@ quietly s c is p fallen bare = record {
   fresh = inl tt;
   stands = leads-represents s (Learn p) quiet_plan c c is (record {
     nodes = λ q.
-        let X : Node → Type 0 = λ x. NodeIn s.cast s.history (content_after p quiet_plan.write s.content) q (node (applied s (Learn p) quiet_plan) q) x in
+        let X : Node → Type 0 = λ x. NodeIn s.scene s.history (content_after p quiet_plan.write s.content) q (node (applied s (Learn p) quiet_plan) q) x in
         subst X (sym (at-same o c.node (node_index q)))
         (nodes-at s (Learn p) quiet_plan c (c.node o) is tt (λ r d. refl) (owner-in s (Learn p) quiet_plan (Some IsDownNode) (c.node o) fallen
         (subst Row (bare-row (row_of s.content p) bare) (subst Was fallen (is.nodes p)))) q);
@@ -67,10 +68,10 @@ quietly s c is p fallen bare = record {
   o = node_index p
 
   Was : Option RealNode → Type 0
-  Was r = NodeIn s.cast s.history s.content p r (c.node (node_index p))
+  Was r = NodeIn s.scene s.history s.content p r (c.node (node_index p))
 
   Row : NodeRow → Type 0
-  Row r = NodeIs s.cast s.history p (line s.history p) (Some IsDownNode) r (verdict_on s.content r.tentative) (c.node (node_index p))
+  Row r = NodeIs s.scene s.history p (log s.history p) (Some IsDownNode) r (verdict_on s.content r.tentative) (c.node (node_index p))
 
 -- what the permanent one is where nothing tentative is
 by-none : (v : Option RealVerdict) (x : Option Ckpt) → permanent_by v None x ≡ x
@@ -80,7 +81,7 @@ by-none (Some verdicts.Yes) x = refl
 by-none (Some verdicts.No) x = refl
 
 cut-again : (s : World) (c : State) → Represents s c → (p : NodeId) → node s p ≡ Some IsDownNode → (row_of s.content p).tentative ≡ None
-    → MayNote s.cast s.history p (discard_down_plan (view s p) (stored_of s.content p)).note
+    → MayNote s.scene s.history p (discard_down_plan (view s p) (stored_of s.content p)).note
     → Refines s (Learn p) (discard_down_plan (view s p) (stored_of s.content p)) c
 unfolding carried to
 cut-again s c is p fallen bare may = record {
@@ -106,7 +107,7 @@ cut-again s c is p fallen bare may = record {
   row = row_of s.content p
 
   keep : ℕ
-  keep = acts_in (option_map marks_of (row_of s.content p).permanent)
+  keep = acts_in (option_map header_of (row_of s.content p).permanent)
 
   new : Node
   new = falling (cutting (c.node o))
@@ -119,22 +120,23 @@ cut-again s c is p fallen bare may = record {
 
   none-held : (c.node o).tent ≡ None
   none-held =
-      let T : Option Tentative → Type 0 = λ t. TentativeIs s.cast s.history p (line s.history p) t (c.node o).tent (c.node o).line in
+      let T : Option Tentative → Type 0 = λ t. TentativeIs s.scene s.history p (log s.history p) t (c.node o).tent (c.node o).log in
       subst T none (is.nodes p).tent
 
   same : keep ≡ acts_held (permanent_by (verdict_on s.content row.tentative) row.tentative row.permanent)
-  same = held_marks row.permanent
+  same = held_header row.permanent
       ∙ ap acts_held (sym (ap (λ (t : Option Tentative). permanent_by (verdict_on s.content t) t row.permanent) bare ∙ by-none None row.permanent))
 
   Row : NodeRow → Type 0
-  Row r = NodeIs s.cast (Rattle.kt_world.specs.Effect.noted s.history plan.note) p (line (Rattle.kt_world.specs.Effect.noted s.history plan.note) p) (Some IsDownNode) r (verdict_on s.content r.tentative) new
+  Row r = NodeIs s.scene (Rattle.kt_model.specs.Effect.noted s.history plan.note) p (log (Rattle.kt_model.specs.Effect.noted s.history plan.note) p)
+      (Some IsDownNode) r (verdict_on s.content r.tentative) new
 
 refined-stands : (s : World) (f : StandsFor s) (step : Step) (plan : Plan) → Refines s step plan f.state → StandsFor (applied s step plan)
 refined-stands s f step plan next = record {
   state = next.next;
   reached = reached-run f.reached next.run;
   stands = next.stands;
-  letters = letters-through (peers-are s.cast) (stands-invariant s f) s.history plan.note f.letters next.run next.fresh;
+  letters = letters-through (peers-are s.scene) (stands-invariant s f) s.history plan.note f.letters next.run next.fresh;
 }
 
 pub quiet-stands : (s : World) → Kept s → (step : Step) (plan : Plan) → (x : Learns s step plan) → StandsFor (settled s)
@@ -144,7 +146,7 @@ quiet-stands s k step plan x f =
     let bare = found-bare s x.node x.found in
     let fallen = has_fallen (settled s) h.ready x.node x.there x.down in
     let may = (is-quiet s k step plan x).keeps.may in
-    let May : Plan → Type 0 = λ q. MayNote s.cast s.history x.node q.note in
+    let May : Plan → Type 0 = λ q. MayNote s.scene s.history x.node q.note in
     let S : Plan → Type 0 = λ q. StandsFor (applied (settled s) (Learn x.node) q) in
     subst (λ t. StandsFor (applied (settled s) t x.quiet)) (sym x.is_learn) (elim x.kind [
       | inl e ↦ subst S (sym e) (refined-stands (settled s) f (Learn x.node) quiet_plan (quietly (settled s) f.state f.stands x.node fallen bare))

@@ -1,33 +1,29 @@
 -- What every state leaves in its store, of what a world that is resumed from it asks of labels and instances: what a
 -- permanent checkpoint has heard the sender's has sent, no label is of a later incarnation, and a tentative checkpoint's
 -- instance is on the board.
-use Rattle.std.proofs.Common.{◌≡◌, ◌⊎◌, ℕ, ◌≤◌, Bool, true, false, IsTrue, Option, Some, None, inl, inr, refl, sym, ap, subst, ◌∙◌, arith}
-use Rattle.std.specs.Prelude.{IfSome, is_some}
+-- Cited by `laws::what_a_world_leaves_can_be_resumed`; kt_core.
+use Rattle.std.proofs.Common.{◌≡◌, ◌≤◌, IsTrue, Option, inl, inr, sym, ap, subst, ◌∙◌, arith}
 use Rattle.std.specs.Option.{option_map}
 use Rattle.std.proofs.lemmas.Bool.{cases_eq}
 use Rattle.kt_tuple.specs.declared.node.NodeId.{NodeId}
 use Rattle.kt_tuple.specs.Node.{node_index}
 use Rattle.kt_link.specs.declared.label.Label.{Label as RealLabel}
 use Rattle.kt_ckpt.specs.declared.ckpt.Ckpt.{Ckpt}
-use Rattle.kt_ckpt.specs.Marks.{marks_of}
-use Rattle.kt_store.specs.declared.rows.NodeRow.{NodeRow}
-use Rattle.kt_store.specs.declared.rows.Tentative.{Tentative}
-use Rattle.kt_store.specs.Content.{Content, posted, row_of, verdict_of}
-use Rattle.kt_node.specs.Labels.{up_to}
-use Rattle.kt_node.specs.Node.{node_number}
-use Rattle.kt_node.specs.Stored.{sent_in, received_in}
-use Rattle.kt_world.specs.Cut.{permanent_of}
-use Rattle.kt_world.specs.Reached.{IsReached}
-use Rattle.kt_world.specs.Resumed.{AreFit, heard_from, sent_to}
-use Rattle.kt_world.specs.State.{State as World}
-use Rattle.kt_world.specs.inner.Ready.{AreNeighbours}
-use Rattle.kt_world.proofs.Shared.{never-unfit, neighbours-turned, permanent-settled, row-settled, settled, settled-incarnation}
-use Rattle.kt_protocol.specs.Labels.{UpTo, Under}
-use Rattle.kt_protocol.specs.Lines.{top_sent, top_heard}
-use Rattle.kt_protocol.proofs.Shared.{Invariant, sent-tail, UpTo-Under}
-use Rattle.kt_refinement.proofs.Numbers.{label_of, peers}
+use Rattle.kt_ckpt.specs.Header.{header_of}
+use Rattle.kt_store.specs.Content.{row_of}
+use Rattle.kt_state.specs.Labels.{up_to}
+use Rattle.kt_state.specs.Node.{node_number}
+use Rattle.kt_state.specs.Stored.{sent_in, received_in}
+use Rattle.kt_model.specs.Reached.{IsReached}
+use Rattle.kt_model.specs.Resumed.{AreFit, heard_from, sent_to}
+use Rattle.kt_model.specs.State.{State as World}
+use Rattle.kt_model.specs.auxiliary.Ready.{AreNeighbours}
+use Rattle.kt_model.proofs.Shared.{never-unfit, neighbours-turned, permanent-settled, settled, settled-incarnation}
+use Rattle.kt_protocol.specs.Labels.{UpTo}
+use Rattle.kt_protocol.specs.Logs.{top_sent, top_heard}
+use Rattle.kt_protocol.proofs.Shared.{sent-tail, UpTo-Under}
+use Rattle.kt_refinement.proofs.Numbers.{label_of}
 use Rattle.kt_refinement.proofs.Known.{near-is}
-use Rattle.kt_refinement.proofs.Represents.{Represents}
 use Rattle.kt_refinement.proofs.Refined.{StandsFor, stands-invariant}
 use Rattle.kt_refinement.proofs.Resuming.{reached-stands}
 use Rattle.kt_refinement.proofs.Whole.{closed-reached}
@@ -39,28 +35,28 @@ up_to-from a b u = elim (cases_eq a.incarnation b.incarnation) [
 ]
 
 -- the labels of what counts as permanent are the machine's
-heard-is : (s : World) (f : StandsFor (settled s)) (p q : NodeId) → AreNeighbours s.cast p q
+heard-is : (s : World) (f : StandsFor (settled s)) (p q : NodeId) → AreNeighbours s.scene p q
     → label_of (heard_from s.content p q) ≡ top_heard (f.state.node (node_index p)).perm (node_index q)
 heard-is s f p q near =
-    ap (λ (o : Option Ckpt). label_of (received_in (option_map marks_of o) (node_number q))) (sym (permanent-settled s.found s.content p))
+    ap (λ (o : Option Ckpt). label_of (received_in (option_map header_of o) (node_number q))) (sym (permanent-settled s.found s.content p))
     ∙ (f.stands.nodes p).perm.received q near
 
-sent-is : (s : World) (f : StandsFor (settled s)) (p q : NodeId) → AreNeighbours s.cast p q
+sent-is : (s : World) (f : StandsFor (settled s)) (p q : NodeId) → AreNeighbours s.scene p q
     → label_of (sent_to s.content p q) ≡ top_sent (f.state.node (node_index p)).perm (node_index q)
 sent-is s f p q near =
-    ap (λ (o : Option Ckpt). label_of (sent_in (option_map marks_of o) (node_number q))) (sym (permanent-settled s.found s.content p))
+    ap (λ (o : Option Ckpt). label_of (sent_in (option_map header_of o) (node_number q))) (sym (permanent-settled s.found s.content p))
     ∙ (f.stands.nodes p).perm.sent q near
 
-pub leaves-agreeing : (s : World) → IsReached s → (p q : NodeId) → AreNeighbours s.cast p q → IsTrue (up_to (heard_from s.content p q) (sent_to s.content q p))
+pub leaves-agreeing : (s : World) → IsReached s → (p q : NodeId) → AreNeighbours s.scene p q → IsTrue (up_to (heard_from s.content p q) (sent_to s.content q p))
 leaves-agreeing s is p q near =
     let f = reached-stands s is in
-    let back = neighbours-turned s.cast p q near in
+    let back = neighbours-turned s.scene p q near in
     let agree = ((stands-invariant (settled s) f).pair (node_index q) (node_index p) (near-is (settled s) q p back)).agree in
     up_to-from (heard_from s.content p q) (sent_to s.content q p)
     (subst (λ l. UpTo l (label_of (sent_to s.content q p))) (sym (heard-is s f p q near))
     (subst (λ l. UpTo (top_heard (f.state.node (node_index p)).perm (node_index q)) l) (sym (sent-is s f q p back)) agree))
 
-pub leaves-living : (s : World) → IsReached s → (p q : NodeId) → AreNeighbours s.cast p q
+pub leaves-living : (s : World) → IsReached s → (p q : NodeId) → AreNeighbours s.scene p q
     → (sent_to s.content p q).incarnation ≤ (row_of s.content p).incarnation
 leaves-living s is p q near =
     let f = reached-stands s is in
@@ -73,5 +69,5 @@ leaves-living s is p q near =
     omega (arith, e, lives, life, same)
 
 -- so what is left can be resumed
-pub leaves-fitting : (s : World) → IsReached s → AreFit s.cast s.content
+pub leaves-fitting : (s : World) → IsReached s → AreFit s.scene s.content
 leaves-fitting s is = never-unfit s is (closed-reached s is) (leaves-agreeing s is) (leaves-living s is)

@@ -1,13 +1,14 @@
 -- Each message of the machine has its own letter: by the number of the act that sent it, who sent it, to whom, and under
 -- which label. What is sent, heard, under way or kept by one act is one message.
+-- Cited by Agreeing, Forcing, Frames, Hearing, LearnsFound, Refined, Resumed, Sending.
 use Rattle.std.proofs.Common.{◌≡◌, ◌≢◌, ◌⊎◌, ◌<◌, ◌≤◌, ℕ, Bool, List, [], ◌∷◌, length, Option, Some, None, inl, inr, refl, sym, ap, ◌∙◌, arith, length-append}
 use Rattle.kt_tuple.specs.Node.{node_index}
 use Rattle.kt_history.specs.declared.note.Act.{Act as Done}
 use Rattle.kt_history.specs.declared.note.Note.{Note}
 use Rattle.kt_history.specs.declared.note.Note.TheVariants as notes
-use Rattle.kt_history.specs.Line.{note_at}
+use Rattle.kt_history.specs.Log.{note_at}
 use Rattle.kt_history.proofs.Shared.{note_at-old, note_at-within}
-use Rattle.kt_world.specs.Effect.{noted}
+use Rattle.kt_model.specs.Effect.{noted}
 use Rattle.kt_protocol.specs.Labels.{Label, at}
 use Rattle.kt_protocol.specs.Machine.{State, next_label}
 use Rattle.kt_protocol.specs.Steps.{Step, sends}
@@ -50,10 +51,12 @@ pub record Lettered (h : List Note) (c : State) : Type 0 where
   pub fit : AllFit (Fits h first letter) c
 
 -- two messages of one act are one
-pub same-to : {h : List Note} {first : ℕ} {letter : ℕ → Letter} (by p q r : ℕ) (l m : Label) → Fits h first letter by p q l → Fits h first letter by p r m → q ≡ r
+pub same-to : {h : List Note} {first : ℕ} {letter : ℕ → Letter} (by p q r : ℕ) (l m : Label) → Fits h first letter by p q l → Fits h first letter by p r m
+    → q ≡ r
 same-to by p q r l m f g = ap (λ (x : Letter). x.to) (sym f.is ∙ g.is)
 
-pub same-label : {h : List Note} {first : ℕ} {letter : ℕ → Letter} (by p q r : ℕ) (l m : Label) → Fits h first letter by p q l → Fits h first letter by p r m → l ≡ m
+pub same-label : {h : List Note} {first : ℕ} {letter : ℕ → Letter} (by p q r : ℕ) (l m : Label) → Fits h first letter by p q l → Fits h first letter by p r m
+    → l ≡ m
 same-label by p q r l m f g = ap (λ (x : Letter). x.label) (sym f.is ∙ g.is)
 
 -- ---- the history grows

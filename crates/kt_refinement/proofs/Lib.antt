@@ -39,6 +39,7 @@ pub mod Hearing
 pub mod Hears
 pub mod Refining
 pub mod Refined
+pub mod ResumedMachine
 pub mod Resumed
 pub mod LearnsFound
 pub mod Resuming

@@ -1,11 +1,12 @@
 -- Which messages the machine knows of: those that its acts sent and heard, those under way and those kept. A step adds
 -- none unless it sends.
+-- Cited by Answering, Closing, Forcing, JoinsCheck, Letters, Voting.
 use Rattle.std.proofs.Common.{◌≡◌, ◌≢◌, ◌⊎◌, ℕ, Bool, true, false, List, [], ◌∷◌, ◌++◌, inl, inr, sym, subst}
 use Rattle.std.specs.Prelude.{if◌then◌else◌}
 use Rattle.std.proofs.lemmas.Bool.{cases_eq, eq-eqb, ne_eqb}
 use Rattle.kt_protocol.specs.Labels.{Label, at, up_to}
-use Rattle.kt_protocol.specs.Lines.{IsIn, here, there, Act, Sends, Hears}
-use Rattle.kt_protocol.specs.Machine.{Instance, Check, Rollback, Post, Message, App, Ask, Node, Board, State, next_label}
+use Rattle.kt_protocol.specs.Logs.{IsIn, here, there, Act, Sends, Hears}
+use Rattle.kt_protocol.specs.Machine.{Instance, Check, Rollback, AppMessage, Message, App, Ask, Node, Board, State, next_label}
 use Rattle.kt_protocol.specs.Steps.{Step, sends, hears, keeps, takes, drops, ignores, refuses, grants, joins, begins, restarts, counts, agrees, declines}
 use Rattle.kt_protocol.specs.Steps.{decides_rollback, decides_check, gives_up_rollback, gives_up_check, learns_yes, learns_no, releases, fails, fails_holding}
 use Rattle.kt_protocol.specs.Steps.{change, pull, push, only, asking, ask_label, consenting, loading, sending, rising, sieve, sieved}
@@ -16,17 +17,17 @@ abbrev pub Saying : Type 1
 Saying = ℕ → ℕ → ℕ → Label → Type 0
 
 -- it holds of all that the node o remembers and keeps
-pub record NodeFits (P : Saying) (o : ℕ) (line : List Act) (kept : ℕ → List Post) : Type 0 where
-  pub sent : (by y : ℕ) (l : Label) → IsIn (Sends by y l) line → P by o y l
-  pub heard : (by x : ℕ) (l : Label) → IsIn (Hears by x l) line → P by x o l
-  pub keeps : (x : ℕ) (m : Post) → IsIn m (kept x) → P m.by x o m.label
+pub record NodeFits (P : Saying) (o : ℕ) (log : List Act) (kept : ℕ → List AppMessage) : Type 0 where
+  pub sent : (by y : ℕ) (l : Label) → IsIn (Sends by y l) log → P by o y l
+  pub heard : (by x : ℕ) (l : Label) → IsIn (Hears by x l) log → P by x o l
+  pub keeps : (x : ℕ) (m : AppMessage) → IsIn m (kept x) → P m.by x o m.label
 
 -- and of all that is under way
 abbrev pub LinksFit : Saying → (ℕ → ℕ → List Message) → Type 0
-LinksFit P link = (p q : ℕ) (m : Post) → IsIn (App m) (link p q) → P m.by p q m.label
+LinksFit P link = (p q : ℕ) (m : AppMessage) → IsIn (App m) (link p q) → P m.by p q m.label
 
 pub record AllFit (P : Saying) (c : State) : Type 0 where
-  pub nodes : (o : ℕ) → NodeFits P o (c.node o).line (c.node o).kept
+  pub nodes : (o : ℕ) → NodeFits P o (c.node o).log (c.node o).kept
   pub links : LinksFit P c.link
 
 pub fit-more : (P Q : Saying) (c : State) → ((by p q : ℕ) (l : Label) → P by p q l → Q by p q l) → AllFit P c → AllFit Q c
@@ -64,7 +65,7 @@ in-cons : {A : Type 0} (x y : A) (xs ys : List A) → (IsIn x xs → IsIn x ys) 
 in-cons x y xs ys more here = here
 in-cons x y xs ys more (there i) = there (more i)
 
-in-sieve : (l : Label) (ks : List Post) (m : Post) → IsIn m (sieve l ks) → IsIn m ks
+in-sieve : (l : Label) (ks : List AppMessage) (m : AppMessage) → IsIn m (sieve l ks) → IsIn m ks
 unfolding sieve
 in-sieve l [] m i = i
 in-sieve l (k ∷ ks) m i = by (in-sieve l ks m) (up_to k.label l) i where
@@ -72,7 +73,7 @@ in-sieve l (k ∷ ks) m i = by (in-sieve l ks m) (up_to k.label l) i where
   by old true j = in-cons m k (sieve l ks) ks old j
   by old false j = there (old j)
 
-in-sieved : (i : Instance) (l : Label) (ks : List Post) (m : Post) → IsIn m (sieved i l ks) → IsIn m ks
+in-sieved : (i : Instance) (l : Label) (ks : List AppMessage) (m : AppMessage) → IsIn m (sieved i l ks) → IsIn m ks
 in-sieved (Check k) l ks m j = j
 in-sieved (Rollback k) l ks m j = in-sieve l ks m j
 
@@ -103,7 +104,7 @@ in-pushed o send s p q m i = elim (cases_eq p o) [
 ]
 
 -- an ask is no underlying message
-none-asked : (i : Instance) (cohort : ℕ → Bool) (n : Node) (q : ℕ) (m : Post) → IsIn (App m) (asking i cohort n q) → ⊥
+none-asked : (i : Instance) (cohort : ℕ → Bool) (n : Node) (q : ℕ) (m : AppMessage) → IsIn (App m) (asking i cohort n q) → ⊥
 none-asked i cohort n q m j = by (cohort q) j where
   by : (b : Bool) → IsIn (App m) (if b then Ask i (ask_label i n q) n.life ∷ [] else []) → ⊥
   by true (there k) = elim k [ ]
@@ -122,51 +123,51 @@ asked-fit P o i cohort n s fit p q m j = elim (in-pushed o (asking i cohort n) s
 
 -- ---- nodes
 
-nodes-fit : (P : Saying) (o : ℕ) (new : Node) (f : ℕ → Node) → ((x : ℕ) → NodeFits P x (f x).line (f x).kept) → NodeFits P o new.line new.kept
-    → (x : ℕ) → NodeFits P x (at o new f x).line (at o new f x).kept
+nodes-fit : (P : Saying) (o : ℕ) (new : Node) (f : ℕ → Node) → ((x : ℕ) → NodeFits P x (f x).log (f x).kept) → NodeFits P o new.log new.kept
+    → (x : ℕ) → NodeFits P x (at o new f x).log (at o new f x).kept
 nodes-fit P o new f fit own x =
-    let F : ℕ → Node → Type 0 = λ k n. NodeFits P k n.line n.kept in
+    let F : ℕ → Node → Type 0 = λ k n. NodeFits P k n.log n.kept in
     at-both o new f x (F x) (λ e. subst (λ k. F k new) (sym e) own) (λ ne. fit x)
 
 -- the node keeps other messages of x
-kept-fit : (P : Saying) (o x : ℕ) (ks : List Post) (line : List Act) (kept : ℕ → List Post) → NodeFits P o line kept
-    → ((m : Post) → IsIn m ks → P m.by x o m.label) → NodeFits P o line (at x ks kept)
-kept-fit P o x ks line kept fit new = record {
+kept-fit : (P : Saying) (o x : ℕ) (ks : List AppMessage) (log : List Act) (kept : ℕ → List AppMessage) → NodeFits P o log kept
+    → ((m : AppMessage) → IsIn m ks → P m.by x o m.label) → NodeFits P o log (at x ks kept)
+kept-fit P o x ks log kept fit new = record {
   sent = fit.sent;
   heard = fit.heard;
   keeps = λ y m. at-both x ks kept y (λ l. IsIn m l → P m.by y o m.label) (λ e i. subst (λ k. P m.by k o m.label) (sym e) (new m i)) (λ ne i. fit.keeps y m i);
 }
 
-sieved-fit : (P : Saying) (o x : ℕ) (i : Instance) (l : Label) (line : List Act) (kept : ℕ → List Post) → NodeFits P o line kept
-    → NodeFits P o line (at x (sieved i l (kept x)) kept)
-sieved-fit P o x i l line kept fit = kept-fit P o x (sieved i l (kept x)) line kept fit (λ m j. fit.keeps x m (in-sieved i l (kept x) m j))
+sieved-fit : (P : Saying) (o x : ℕ) (i : Instance) (l : Label) (log : List Act) (kept : ℕ → List AppMessage) → NodeFits P o log kept
+    → NodeFits P o log (at x (sieved i l (kept x)) kept)
+sieved-fit P o x i l log kept fit = kept-fit P o x (sieved i l (kept x)) log kept fit (λ m j. fit.keeps x m (in-sieved i l (kept x) m j))
 
-heard-fit : (P : Saying) (o x : ℕ) (m : Post) (line : List Act) (kept : ℕ → List Post) → NodeFits P o line kept → P m.by x o m.label
-    → NodeFits P o (Hears m.by x m.label ∷ line) kept
-heard-fit P o x m line kept fit new = record {
+heard-fit : (P : Saying) (o x : ℕ) (m : AppMessage) (log : List Act) (kept : ℕ → List AppMessage) → NodeFits P o log kept → P m.by x o m.label
+    → NodeFits P o (Hears m.by x m.label ∷ log) kept
+heard-fit P o x m log kept fit new = record {
   sent = λ by y l i. elim i [ there j ↦ fit.sent by y l j ];
   heard = λ by y l i. first by y l i;
   keeps = fit.keeps;
 } where
-  first : (by y : ℕ) (l : Label) → IsIn (Hears by y l) (Hears m.by x m.label ∷ line) → P by y o l
+  first : (by y : ℕ) (l : Label) → IsIn (Hears by y l) (Hears m.by x m.label ∷ log) → P by y o l
   first by y l here = new
   first by y l (there j) = fit.heard by y l j
 
-sent-fit : (P : Saying) (o y by : ℕ) (l : Label) (line : List Act) (kept : ℕ → List Post) → NodeFits P o line kept → P by o y l
-    → NodeFits P o (Sends by y l ∷ line) kept
-sent-fit P o y by l line kept fit new = record {
+sent-fit : (P : Saying) (o y by : ℕ) (l : Label) (log : List Act) (kept : ℕ → List AppMessage) → NodeFits P o log kept → P by o y l
+    → NodeFits P o (Sends by y l ∷ log) kept
+sent-fit P o y by l log kept fit new = record {
   sent = λ b z k i. first b z k i;
   heard = λ b x k i. other b x k i;
   keeps = fit.keeps;
 } where
-  first : (b z : ℕ) (k : Label) → IsIn (Sends b z k) (Sends by y l ∷ line) → P b o z k
+  first : (b z : ℕ) (k : Label) → IsIn (Sends b z k) (Sends by y l ∷ log) → P b o z k
   first b z k here = new
   first b z k (there j) = fit.sent b z k j
 
-  other : (b x : ℕ) (k : Label) → IsIn (Hears b x k) (Sends by y l ∷ line) → P b x o k
+  other : (b x : ℕ) (k : Label) → IsIn (Hears b x k) (Sends by y l ∷ log) → P b x o k
   other b x k (there j) = fit.heard b x k j
 
--- the line is cut to the permanent checkpoint, and nothing is kept
+-- the log is cut to the permanent checkpoint, and nothing is kept
 cut-fit : (P : Saying) {peer : ℕ → ℕ → Bool} (s : State) → Invariant peer s → AllFit P s → (o : ℕ) → NodeFits P o (s.node o).perm (λ x. [])
 cut-fit P s inv fit o = record {
   sent = λ by y l i. (fit.nodes o).sent by y l (tail-in (inv.local o).tail i);
@@ -176,7 +177,7 @@ cut-fit P s inv fit o = record {
 
 -- ---- steps
 
-fit-change : (P : Saying) (s : State) (o : ℕ) (new : Node) (link : ℕ → ℕ → List Message) (board : Board) → AllFit P s → NodeFits P o new.line new.kept
+fit-change : (P : Saying) (s : State) (o : ℕ) (new : Node) (link : ℕ → ℕ → List Message) (board : Board) → AllFit P s → NodeFits P o new.log new.kept
     → LinksFit P link → AllFit P record { node = at o new s.node; link = link; board = board }
 fit-change P s o new link board fit own links = record { nodes = nodes-fit P o new s.node fit.nodes own; links = links }
 
@@ -184,19 +185,19 @@ pub sends-fits : (P : Saying) (s : State) (o y by : ℕ) → AllFit P s → P by
     → AllFit P (change o (sending by y) (push o (only y (App record { by = by; label = next_label (s.node o) })) s))
 sends-fits P s o y by fit new =
     fit-change P s o (sending by y (s.node o)) (push o send s).link s.board fit
-    (sent-fit P o y by (next_label (s.node o)) (s.node o).line (s.node o).kept (fit.nodes o) new) links
+    (sent-fit P o y by (next_label (s.node o)) (s.node o).log (s.node o).kept (fit.nodes o) new) links
   where
     send : ℕ → List Message
     send = only y (App record { by = by; label = next_label (s.node o) })
 
-    the-one : (q : ℕ) (m : Post) → IsIn (App m) (send q) → P m.by o q m.label
+    the-one : (q : ℕ) (m : AppMessage) → IsIn (App m) (send q) → P m.by o q m.label
     the-one q m i = elim (cases_eq q y) [
       | inl e ↦
           let at_y : IsIn (App m) (App record { by = by; label = next_label (s.node o) } ∷ []) = rw (eq-eqb q y e) at i in
           subst (λ k. P m.by o k m.label) (sym e) (it m at_y)
       | inr ne ↦ let none : IsIn (App m) [] = rw (ne_eqb q y ne) at i in elim none [ ]
     ] where
-      it : (m : Post) → IsIn (App m) (App record { by = by; label = next_label (s.node o) } ∷ []) → P m.by o y m.label
+      it : (m : AppMessage) → IsIn (App m) (App record { by = by; label = next_label (s.node o) } ∷ []) → P m.by o y m.label
       it m here = new
       it m (there j) = elim j [ ]
 
@@ -210,35 +211,35 @@ pub quiet-fits : (P : Saying) (peer : ℕ → ℕ → Bool) (s t : State) → In
 quiet-fits P peer s t inv fit (sends o y by u up) quiet = absurd quiet
 quiet-fits P peer s t inv fit (hears o x m rest u up bare front) quiet =
     fit-change P s o _ _ s.board fit
-    (heard-fit P o x m (s.node o).line (s.node o).kept (fit.nodes o) (fit.links x o m (subst (λ l. IsIn (App m) l) (sym front) here)))
+    (heard-fit P o x m (s.node o).log (s.node o).kept (fit.nodes o) (fit.links x o m (subst (λ l. IsIn (App m) l) (sym front) here)))
     (pulled-fit P x o (App m) rest s front fit.links)
 quiet-fits P peer s t inv fit (keeps o x m rest u front) quiet =
     fit-change P s o _ _ s.board fit
-    (kept-fit P o x ((s.node o).kept x ++ m ∷ []) (s.node o).line (s.node o).kept (fit.nodes o) more)
+    (kept-fit P o x ((s.node o).kept x ++ m ∷ []) (s.node o).log (s.node o).kept (fit.nodes o) more)
     (pulled-fit P x o (App m) rest s front fit.links)
   where
-    it : (k : Post) → IsIn k (m ∷ []) → P k.by x o k.label
+    it : (k : AppMessage) → IsIn k (m ∷ []) → P k.by x o k.label
     it k here = fit.links x o m (subst (λ l. IsIn (App m) l) (sym front) here)
     it k (there j) = elim j [ ]
 
-    more : (k : Post) → IsIn k ((s.node o).kept x ++ m ∷ []) → P k.by x o k.label
+    more : (k : AppMessage) → IsIn k ((s.node o).kept x ++ m ∷ []) → P k.by x o k.label
     more k i = elim (in-parts ((s.node o).kept x) (m ∷ []) k i) [ inl old ↦ (fit.nodes o).keeps x k old | inr new ↦ it k new ]
 quiet-fits P peer s t inv fit (takes o x m ks u up front) quiet =
     fit-change P s o _ _ s.board fit
-    (heard-fit P o x m (s.node o).line (at x ks (s.node o).kept)
-    (kept-fit P o x ks (s.node o).line (s.node o).kept (fit.nodes o)
+    (heard-fit P o x m (s.node o).log (at x ks (s.node o).kept)
+    (kept-fit P o x ks (s.node o).log (s.node o).kept (fit.nodes o)
     (λ k i. (fit.nodes o).keeps x k (subst (λ l. IsIn k l) (sym front) (there i))))
     ((fit.nodes o).keeps x m (subst (λ l. IsIn m l) (sym front) here)))
     fit.links
 quiet-fits P peer s t inv fit (drops o x m rest u front) quiet = record { nodes = fit.nodes; links = pulled-fit P x o (App m) rest s front fit.links }
 quiet-fits P peer s t inv fit (ignores o x i l c rest u front) quiet =
-    fit-change P s o _ _ s.board fit (sieved-fit P o x i l (s.node o).line (s.node o).kept (fit.nodes o)) (pulled-fit P x o _ rest s front fit.links)
+    fit-change P s o _ _ s.board fit (sieved-fit P o x i l (s.node o).log (s.node o).kept (fit.nodes o)) (pulled-fit P x o _ rest s front fit.links)
 quiet-fits P peer s t inv fit (refuses o x i l c rest u front) quiet =
-    fit-change P s o _ _ s.board fit (sieved-fit P o x i l (s.node o).line (s.node o).kept (fit.nodes o)) (pulled-fit P x o _ rest s front fit.links)
+    fit-change P s o _ _ s.board fit (sieved-fit P o x i l (s.node o).log (s.node o).kept (fit.nodes o)) (pulled-fit P x o _ rest s front fit.links)
 quiet-fits P peer s t inv fit (grants o x i l c rest u front opened may) quiet =
-    fit-change P s o _ _ s.board fit (sieved-fit P o x i l (s.node o).line (s.node o).kept (fit.nodes o)) (pulled-fit P x o _ rest s front fit.links)
+    fit-change P s o _ _ s.board fit (sieved-fit P o x i l (s.node o).log (s.node o).kept (fit.nodes o)) (pulled-fit P x o _ rest s front fit.links)
 quiet-fits P peer s t inv fit (joins o x i l c rest cohort u front up opened must asked) quiet =
-    fit-change P s o _ _ s.board fit (sieved-fit P o x i l (s.node o).line (s.node o).kept (fit.nodes o))
+    fit-change P s o _ _ s.board fit (sieved-fit P o x i l (s.node o).log (s.node o).kept (fit.nodes o))
     (asked-fit P o i cohort (s.node o) (pull x o rest s) (pulled-fit P x o _ rest s front fit.links))
 quiet-fits P peer s t inv fit (begins o k cohort up unbegun asked) quiet =
     fit-change P s o _ _ _ fit (fit.nodes o) (asked-fit P o (Check k) cohort (s.node o) s fit.links)

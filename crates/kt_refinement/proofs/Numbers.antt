@@ -1,10 +1,13 @@
 -- The nodes of a scene as the machine's numbers, and its labels as the machine's labels.
+-- Cited by Acting, Agreeing, Answering, Beginning, BeginsCheck, Checking, Closing, Cohorts, CountsVote, Decides,
+--   Denies, Dropping, Forcing, Frames, GoesOn, Hearing, JoinsCheck, JoinsRollback, Known, Leaving, Loading, Opened,
+--   Refined, Refining and 10 more.
 use Rattle.std.proofs.Common.{◌≡◌, ℕ, zero, suc, ◌+◌, ◌*◌, Bool, refl, ap, ◌∙◌, arith}
 use Rattle.kt_tuple.specs.declared.node.NodeId.{NodeId}
 use Rattle.kt_tuple.specs.declared.node.NodeId.TheVariants as ids
 use Rattle.kt_tuple.specs.Node.{node_index}
 use Rattle.kt_link.specs.declared.label.Label.{Label as RealLabel}
-use Rattle.kt_world.specs.Cast.{Cast, are_neighbours}
+use Rattle.kt_scenario.specs.Scene.{SceneModel, are_neighbours}
 use Rattle.kt_protocol.specs.Labels.{Label}
 
 -- ---- nodes
@@ -44,11 +47,11 @@ index-named (suc zero) = refl
 index-named (suc (suc n)) = next-index (named n) ∙ ap (λ k. suc (suc k)) (index-named n)
 
 -- who are neighbours
-abbrev pub peers : Cast → ℕ → ℕ → Bool
-peers cast m n = are_neighbours cast (named m) (named n)
+abbrev pub peers : SceneModel → ℕ → ℕ → Bool
+peers scene m n = are_neighbours scene (named m) (named n)
 
-pub peers-of : (cast : Cast) (p q : NodeId) → peers cast (node_index p) (node_index q) ≡ are_neighbours cast p q
-peers-of cast p q = ap (λ x. are_neighbours cast x (named (node_index q))) (named-index p) ∙ ap (are_neighbours cast p) (named-index q)
+pub peers-of : (scene : SceneModel) (p q : NodeId) → peers scene (node_index p) (node_index q) ≡ are_neighbours scene p q
+peers-of scene p q = ap (λ x. are_neighbours scene x (named (node_index q))) (named-index p) ∙ ap (are_neighbours scene p) (named-index q)
 
 -- ---- labels
 

@@ -1,4 +1,6 @@
--- A line of note numbers, oldest first, as the acts of the machine, newest first. Labels stand in the acts alone.
+-- A log of note numbers, oldest first, as the acts of the machine, newest first. Labels stand in the acts alone.
+-- Cited by Acted, Acting, Agreeing, Checking, Closing, Falling, Forcing, Frames, Hearing, Hears, Letters, Loading,
+--   Opened, Represents, Restarts, Resumed, RollsBack, Sending, Serving.
 use Rattle.std.proofs.Common.{◌≡◌, ◌≢◌, ℕ, ◌≤◌, List, [], ◌∷◌, ◌++◌, length, Contains, Option, Some, None, sym, ◌∙◌, length-append, arith}
 use Rattle.kt_tuple.specs.declared.node.NodeId.{NodeId}
 use Rattle.kt_tuple.specs.Node.{node_index}
@@ -7,11 +9,11 @@ use Rattle.kt_history.specs.declared.note.Note.{Note}
 use Rattle.kt_history.specs.declared.note.Note.TheVariants as notes
 use Rattle.kt_history.specs.declared.note.What.{What}
 use Rattle.kt_history.specs.declared.note.What.TheVariants as whats
-use Rattle.kt_history.specs.Line.{note_at}
+use Rattle.kt_history.specs.Log.{note_at}
 use Rattle.kt_history.proofs.Shared.{note_at-old, note_at-within}
-use Rattle.kt_world.specs.Effect.{noted}
+use Rattle.kt_model.specs.Effect.{noted}
 use Rattle.kt_protocol.specs.Labels.{Label}
-use Rattle.kt_protocol.specs.Lines.{IsIn, Act, Sends, Hears, Resumes, IsTalk}
+use Rattle.kt_protocol.specs.Logs.{IsIn, Act, Sends, Hears, Resumes, IsTalk}
 
 -- the act `by` was heard, of some node and under some label
 pub record WasHeard (by : ℕ) (acts : List Act) : Type 0 where

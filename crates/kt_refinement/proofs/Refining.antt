@@ -1,12 +1,13 @@
 -- Each plan of a step is a run of the machine: one leaf after the other.
-use Rattle.kt_node.specs.declared.plan.Plan.{Plan}
-use Rattle.kt_world.specs.declared.step.Step.{Step}
-use Rattle.kt_world.specs.declared.step.Step.TheVariants.{Issue, Repeat, Deliver, Take, Serve, Check, Decide, Abandon, Learn, Fail, Restart}
-use Rattle.kt_world.specs.Step.{owner}
-use Rattle.kt_world.specs.State.{State as World}
-use Rattle.kt_world.specs.Told.{told}
-use Rattle.kt_world.proofs.Plans as plans
-use Rattle.kt_world.proofs.Shared.{PlanOf, MayNote, step_keeps, Holds}
+-- Cited by Refined.
+use Rattle.kt_state.specs.declared.plan.Plan.{Plan}
+use Rattle.kt_scenario.specs.declared.step.Step.{Step}
+use Rattle.kt_scenario.specs.declared.step.Step.TheVariants.{Issue, Repeat, Deliver, Take, Serve, Check, Decide, Abandon, Learn, Fail, Restart}
+use Rattle.kt_scenario.specs.Step.{owner}
+use Rattle.kt_model.specs.State.{State as World}
+use Rattle.kt_model.specs.StoreReads.{store_reads}
+use Rattle.kt_model.proofs.Plans as plans
+use Rattle.kt_model.proofs.Shared.{PlanOf, MayNote, step_keeps, Holds}
 use Rattle.kt_protocol.specs.Machine.{State}
 use Rattle.kt_protocol.proofs.Shared.{Invariant}
 use Rattle.kt_refinement.proofs.Numbers.{peers}
@@ -31,16 +32,16 @@ use Rattle.kt_refinement.proofs.Serving.{serves}
 use Rattle.kt_refinement.proofs.PutsBy.{puts_by}
 use Rattle.kt_refinement.proofs.Hears.{hears, takes}
 
-by-leaf : (s : World) (c : State) → Invariant (peers s.cast) c → Represents s c → Holds s → (step : Step) (plan : Plan)
-    → MayNote s.cast s.history (owner step) plan.note → PlanOf s (told s step) step plan → Refines s step plan c
+by-leaf : (s : World) (c : State) → Invariant (peers s.scene) c → Represents s c → Holds s → (step : Step) (plan : Plan)
+    → MayNote s.scene s.history (owner step) plan.note → PlanOf s (store_reads s step) step plan → Refines s step plan c
 by-leaf s c inv is h (Issue p) plan may (plans.issues {n = n} {x = x} {r = r} there alive up works kept next) = issues s c is h p n r _ there alive up may
 by-leaf s c inv is h (Repeat p) plan may (plans.repeats {n = n} {r = r} there alive up works again) = repeats s c is h p n r there alive up may
 by-leaf s c inv is h (Serve p w place) plan may (plans.serves {n = n} {service = v} there worker alive up works chosen) =
     serves s c is h p w n place v there worker alive up may
-by-leaf s c inv is h (Take p) plan may (plans.takes {from = from} {n = n} {post = post} {later = later} there alive up first) =
-    takes s c is h p from n post later alive up first may
-by-leaf s c inv is h (Deliver p q) plan may (plans.hears {n = n} {post = post} comes alive up empty) = hears s c is h p q n post comes alive up empty may
-by-leaf s c inv is h (Deliver p q) plan may (plans.puts_by {n = n} {post = post} comes alive not_rolling) = puts_by s c is p q n post comes alive
+by-leaf s c inv is h (Take p) plan may (plans.takes {from = from} {n = n} {app = app} {later = later} there alive up first) =
+    takes s c is h p from n app later alive up first may
+by-leaf s c inv is h (Deliver p q) plan may (plans.hears {n = n} {app = app} comes alive up empty) = hears s c is h p q n app comes alive up empty may
+by-leaf s c inv is h (Deliver p q) plan may (plans.puts_by {n = n} {app = app} comes alive not_rolling) = puts_by s c is p q n app comes alive
 by-leaf s c inv is h (Deliver p q) plan may (plans.drops {message = message} comes dropped) = drops s c is h p q message comes dropped
 by-leaf s c inv is h (Deliver p q) plan may (plans.answers_check {n = n} {ask = ask} {agreed = agreed} comes alive says) =
     answers_check s c is h p q n ask agreed comes alive says
@@ -83,7 +84,7 @@ by-leaf s c inv is h (Restart p) plan may (plans.restarts {live = live} there do
 by-leaf s c inv is h (Restart p) plan may (plans.restarts_anew {n = n} {live = live} {b = b} there alive rolling began verdict from_store) =
     restarts_anew s c inv is h p n live b there alive rolling began from_store
 
-pub step-refines : (s : World) (c : State) → Invariant (peers s.cast) c → Represents s c → Holds s → (step : Step) (plan : Plan)
-    → PlanOf s (told s step) step plan → Refines s step plan c
+pub step-refines : (s : World) (c : State) → Invariant (peers s.scene) c → Represents s c → Holds s → (step : Step) (plan : Plan)
+    → PlanOf s (store_reads s step) step plan → Refines s step plan c
 step-refines s c inv is h step plan of =
     by-leaf s c inv is h step plan (step_keeps s h.ready h.backed h.sound step plan of).may of

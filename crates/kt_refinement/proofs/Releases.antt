@@ -1,11 +1,12 @@
 -- A held node learns its check's verdict: the machine releases it, and what is stored of it is then what it stood for
 -- since the verdict was written.
+-- Cited by LearnsDown, Refining.
 use Rattle.std.proofs.Common.{◌≡◌, ℕ, Bool, true, false, List, [], Option, Some, None, refl, sym, ap, subst, ◌∙◌, inl}
 use Rattle.std.specs.List.{AllByRecursion}
 use Rattle.kt_tuple.specs.declared.node.NodeId.{NodeId}
 use Rattle.kt_tuple.specs.Node.{node_index}
 use Rattle.kt_history.specs.declared.note.Note.{Note}
-use Rattle.kt_history.specs.Line.{line}
+use Rattle.kt_history.specs.Log.{log}
 use Rattle.kt_ckpt.specs.declared.ckpt.Ckpt.{Ckpt}
 use Rattle.kt_store.specs.declared.rows.NodeRow.{NodeRow}
 use Rattle.kt_store.specs.declared.rows.Tentative.{Tentative}
@@ -14,24 +15,24 @@ use Rattle.kt_store.specs.Verdict.{verdict_from}
 use Rattle.kt_store.specs.Changes.{promoted_from}
 use Rattle.kt_store.specs.Content.{row_of, verdict_of, verdict_on}
 use Rattle.kt_vote.specs.Poll.{Poll}
-use Rattle.kt_node.specs.declared.message.Message.{Message as RealMessage}
-use Rattle.kt_node.specs.declared.message.Message.TheVariants as messages
-use Rattle.kt_node.specs.declared.live.Phase.{Phase}
-use Rattle.kt_node.specs.declared.live.Phase.TheVariants as phases
-use Rattle.kt_node.specs.Node.{Node as RealNode, Live, Alive, poll_in}
-use Rattle.kt_node.specs.Plan.{no_turn}
-use Rattle.kt_node.specs.Turning.{turned}
+use Rattle.kt_state.specs.declared.message.Message.{Message as RealMessage}
+use Rattle.kt_state.specs.declared.message.Message.TheVariants as messages
+use Rattle.kt_state.specs.declared.live.Phase.{Phase}
+use Rattle.kt_state.specs.declared.live.Phase.TheVariants as phases
+use Rattle.kt_state.specs.Node.{Node as RealNode, Live, Alive, poll_in}
+use Rattle.kt_state.specs.Updating.{no_update}
+use Rattle.kt_state.specs.Updating.{updated}
 use Rattle.kt_node.specs.Learning.{held_learns, verdict_to}
 use Rattle.kt_node.specs.Deciding.{settled}
-use Rattle.kt_world.specs.declared.step.Step.{Step}
-use Rattle.kt_world.specs.declared.step.Step.TheVariants.{Deliver, Learn}
-use Rattle.kt_world.specs.Step.{owner}
-use Rattle.kt_world.specs.inner.Backed.{IsTakenIn}
-use Rattle.kt_world.specs.Cast.{Cast}
-use Rattle.kt_world.specs.Cut.{permanent_by}
-use Rattle.kt_world.specs.State.{State as World}
-use Rattle.kt_world.specs.Told.{told, of_poll}
-use Rattle.kt_world.proofs.Shared.{IsAlive, Comes, backed-in, comes-boards, settled-is, learnt, Holds}
+use Rattle.kt_scenario.specs.declared.step.Step.{Step}
+use Rattle.kt_scenario.specs.declared.step.Step.TheVariants.{Deliver, Learn}
+use Rattle.kt_scenario.specs.Step.{owner}
+use Rattle.kt_model.specs.auxiliary.Backed.{IsTakenIn}
+use Rattle.kt_scenario.specs.Scene.{SceneModel}
+use Rattle.kt_model.specs.Cut.{permanent_by}
+use Rattle.kt_model.specs.State.{State as World}
+use Rattle.kt_model.specs.StoreReads.{store_reads, of_poll}
+use Rattle.kt_model.proofs.Shared.{IsAlive, Comes, backed-in, comes-boards, settled-is, learnt, Holds}
 use Rattle.kt_protocol.specs.Labels.{UpTo}
 use Rattle.kt_protocol.specs.Machine.{Node, State}
 use Rattle.kt_protocol.specs.Steps.{rising, releases, change}
@@ -65,11 +66,12 @@ permanent-left false None permanent = refl
 permanent-left false (Some t) permanent = refl
 
 -- the row whose tentative checkpoint is dealt with stands for what it stood for
-pub dealt-with : (cast : Cast) (h : List Note) (p : NodeId) (numbers : List ℕ) (real : Option RealNode) (row : NodeRow) (v : Option RealVerdict) (x : Node)
-    (agreed : Bool) → v ≡ Some (verdict_from agreed) → NodeIs cast h p numbers real row v x
-    → NodeIs cast h p numbers real (record row { permanent = left_permanent agreed row.permanent row.tentative; tentative = None }) None x
-dealt-with cast h p numbers real row v x agreed is_v was = record {
-  line = was.line;
+pub dealt-with : (scene : SceneModel) (h : List Note) (p : NodeId) (numbers : List ℕ) (real : Option RealNode) (row : NodeRow) (v : Option RealVerdict)
+    (x : Node)
+    (agreed : Bool) → v ≡ Some (verdict_from agreed) → NodeIs scene h p numbers real row v x
+    → NodeIs scene h p numbers real (record row { permanent = left_permanent agreed row.permanent row.tentative; tentative = None }) None x
+dealt-with scene h p numbers real row v x agreed is_v was = record {
+  log = was.log;
   life = was.life;
   state = was.state;
   perm = left;
@@ -77,11 +79,11 @@ dealt-with cast h p numbers real row v x agreed is_v was = record {
   lower = λ q near. subst (UpTo _) (left.sent q near) (UpTo-refl _);
 } where
   Tent : Option Tentative → Type 0
-  Tent t = TentativeIs cast h p numbers t x.tent x.line
+  Tent t = TentativeIs scene h p numbers t x.tent x.log
 
-  left : Stands cast h p numbers (left_permanent agreed row.permanent row.tentative) x.perm
+  left : Stands scene h p numbers (left_permanent agreed row.permanent row.tentative) x.perm
   left =
-      let P : Option Ckpt → Type 0 = λ o. Stands cast h p numbers o x.perm in
+      let P : Option Ckpt → Type 0 = λ o. Stands scene h p numbers o x.perm in
       subst P (ap (λ o. permanent_by o row.tentative row.permanent) is_v ∙ permanent-left agreed row.tentative row.permanent) was.perm
 
 -- nothing tentative is left in the machine
@@ -90,17 +92,18 @@ pub none-held : (s : World) (c : State) → Represents s c → (p : NodeId) (agr
 none-held s c is p agreed is_v =
     let t = (row_of s.content p).tentative in
     let Tent : Option Tentative → Type 0 =
-    λ o. TentativeIs s.cast s.history p (line s.history p) o (c.node (node_index p)).tent (c.node (node_index p)).line in
+    λ o. TentativeIs s.scene s.history p (log s.history p) o (c.node (node_index p)).tent (c.node (node_index p)).log in
     subst Tent (ap (λ o. undecided o t) is_v ∙ undecided-none agreed t) (is.nodes p).tent
 
 -- ---- the node
 
 -- it is up
-pub risen : (cast : Cast) (h : List Note) (p : NodeId) (numbers : List ℕ) (n : Live) (row : NodeRow) (v : Option RealVerdict) (x : Node) (promoted : Bool)
-    → NodeIs cast h p numbers (Some (Alive n)) row v x
-    → NodeIs cast h p numbers (Some (Alive (turned record no_turn { promoted = promoted; phase = Some phases.Up } n))) row v (rising x)
-risen cast h p numbers n row v x promoted was = record {
-  line = was.line;
+pub risen : (scene : SceneModel) (h : List Note) (p : NodeId) (numbers : List ℕ) (n : Live) (row : NodeRow) (v : Option RealVerdict) (x : Node)
+    (promoted : Bool)
+    → NodeIs scene h p numbers (Some (Alive n)) row v x
+    → NodeIs scene h p numbers (Some (Alive (updated record no_update { promoted = promoted; phase = Some phases.Up } n))) row v (rising x)
+risen scene h p numbers n row v x promoted was = record {
+  log = was.log;
   life = was.life;
   state = record {
     phase = refl;
@@ -140,7 +143,7 @@ releases-so s c is h step n b agreed send alive held decided links cast = by agr
   next : State
   next = change o rising c
 
-  was : NodeIn s.cast s.history s.content p (Some (Alive n)) (c.node o)
+  was : NodeIn s.scene s.history s.content p (Some (Alive n)) (c.node o)
   was = alive-is s c is p n alive
 
   says : AllByRecursion (CastSo (next.node o).votes) send
@@ -156,8 +159,8 @@ releases-so s c is h step n b agreed send alive held decided links cast = by agr
         fresh = inl (tt, tt);
         stands = leads-represents s step plan c next is (record {
           nodes = nodes-at s step plan c new is tt (λ r d. refl) (owner-in s step plan (Some (Alive n)) new alive
-              (dealt-with s.cast s.history p (line s.history p) _ (row_of s.content p) _ new true is_v
-              (risen s.cast s.history p (line s.history p) n (row_of s.content p) _ (c.node o) true was)));
+              (dealt-with s.scene s.history p (log s.history p) _ (row_of s.content p) _ new true is_v
+              (risen s.scene s.history p (log s.history p) n (row_of s.content p) _ (c.node o) true was)));
           board = is.board;
           links = links;
           votes = votes-at c o new (λ v i. i);
@@ -172,8 +175,8 @@ releases-so s c is h step n b agreed send alive held decided links cast = by agr
         fresh = inl (tt, tt);
         stands = leads-represents s step plan c next is (record {
           nodes = nodes-at s step plan c new is tt (λ r d. refl) (owner-in s step plan (Some (Alive n)) new alive
-              (dealt-with s.cast s.history p (line s.history p) _ (row_of s.content p) _ new false is_v
-              (risen s.cast s.history p (line s.history p) n (row_of s.content p) _ (c.node o) false was)));
+              (dealt-with s.scene s.history p (log s.history p) _ (row_of s.content p) _ new false is_v
+              (risen s.scene s.history p (log s.history p) n (row_of s.content p) _ (c.node o) false was)));
           board = is.board;
           links = links;
           votes = votes-at c o new (λ v i. i);
@@ -183,7 +186,7 @@ releases-so s c is h step n b agreed send alive held decided links cast = by agr
 
 -- what is sent is the same for both verdicts
 held-links : (s : World) (step : Step) (c : State) (agreed : Bool) (send : List (NodeId × RealMessage))
-    → ((plan : Rattle.kt_node.specs.declared.plan.Plan.Plan) → plan.send ≡ send → LinksLead s step plan c c.link)
+    → ((plan : Rattle.kt_state.specs.declared.plan.Plan.Plan) → plan.send ≡ send → LinksLead s step plan c c.link)
     → LinksLead s step (held_learns agreed send) c c.link
 held-links s step c true send links = links (held_learns true send) refl
 held-links s step c false send links = links (held_learns false send) refl
@@ -200,12 +203,12 @@ told_when_held s c is h p q n b instance agreed comes alive held same =
     (verdicts-cast _ instance agreed b.asked)
 
 pub learns_when_held : (s : World) (c : State) → Represents s c → Holds s → (p : NodeId) (n : Live) (b : Poll) (agreed : Bool)
-    → IsAlive s p n → n.phase ≡ phases.Held b → settled (told s (Learn p)).verdict ≡ Some agreed
+    → IsAlive s p n → n.phase ≡ phases.Held b → settled (store_reads s (Learn p)).verdict ≡ Some agreed
     → Refines s (Learn p) (held_learns agreed []) c
 unfolding carried to
 learns_when_held s c is h p n b agreed alive held verdict =
     releases-so s c is h (Learn p) n b agreed [] alive held
-    (sym (learnt s p n alive ∙ ap (λ (x : Phase). of_poll s.content (poll_in x)) held) ∙ settled-is (told s (Learn p)).verdict agreed verdict)
+    (sym (learnt s p n alive ∙ ap (λ (x : Phase). of_poll s.content (poll_in x)) held) ∙ settled-is (store_reads s (Learn p)).verdict agreed verdict)
     (held-links s (Learn p) c agreed [] (λ plan e.
     links-idle s (Learn p) plan c (λ x y f. absurd (cc (f))) (λ r near. ap (λ l. carried (to r l)) e)))
     tt

@@ -1,4 +1,5 @@
 -- A node that is up sends a message of itself: the machine sends.
+-- Cited by Hearing, Issuing, Serving.
 use Rattle.std.proofs.Common.{◌≡◌, ◌≢◌, ℕ, suc, ◌+◌, ◌<◌, List, [], ◌∷◌}
 use Rattle.std.proofs.Common.{◌++◌, length, Some, None, inl, inr, refl, sym, ap, subst, ◌∙◌, arith}
 use Rattle.std.proofs.lemmas.Bool.{eq-eqb, ne_eqb}
@@ -7,29 +8,29 @@ use Rattle.kt_tuple.specs.Node.{node_index, node_eq}
 use Rattle.kt_history.specs.declared.note.Act.{Act as Done}
 use Rattle.kt_history.specs.declared.note.Note.{Note}
 use Rattle.kt_history.specs.declared.note.Note.TheVariants as notes
-use Rattle.kt_history.specs.Line.{note_at, line}
+use Rattle.kt_history.specs.Log.{note_at, log}
 use Rattle.kt_store.specs.Content.{row_of, verdict_on}
-use Rattle.kt_node.specs.declared.message.Post.{Post as RealPost}
-use Rattle.kt_node.specs.declared.message.Message.TheVariants as messages
-use Rattle.kt_node.specs.declared.live.Phase.TheVariants as phases
-use Rattle.kt_node.specs.declared.change.BodyChange.{BodyChange}
-use Rattle.kt_node.specs.declared.change.KeptChange.TheVariants as keeps
-use Rattle.kt_node.specs.declared.change.Change.TheVariants as changes
-use Rattle.kt_node.specs.declared.plan.Plan.{Plan}
-use Rattle.kt_node.specs.Node.{Live, Alive, next_label, node_number}
-use Rattle.kt_node.specs.Labels.{no_label, label_at}
+use Rattle.kt_state.specs.declared.message.AppMessage.{AppMessage as RealAppMessage}
+use Rattle.kt_state.specs.declared.message.Message.TheVariants as messages
+use Rattle.kt_state.specs.declared.live.Phase.TheVariants as phases
+use Rattle.kt_state.specs.declared.change.BodyChange.{BodyChange}
+use Rattle.kt_state.specs.declared.change.KeptChange.TheVariants as keeps
+use Rattle.kt_state.specs.declared.change.Change.TheVariants as changes
+use Rattle.kt_state.specs.declared.plan.Plan.{Plan}
+use Rattle.kt_state.specs.Node.{Live, Alive, next_label, node_number}
+use Rattle.kt_state.specs.Labels.{no_label, label_at}
 use Rattle.kt_shard.specs.Table.{put}
-use Rattle.kt_node.specs.Plan.{no_turn}
-use Rattle.kt_node.specs.Turning.{turned}
-use Rattle.kt_world.specs.declared.step.Step.{Step}
-use Rattle.kt_world.specs.declared.step.Step.TheVariants.{Deliver}
-use Rattle.kt_world.specs.Step.{owner}
-use Rattle.kt_world.specs.State.{State as World}
-use Rattle.kt_world.specs.Effect.{noted}
-use Rattle.kt_world.specs.inner.Ready.{AreNeighbours}
-use Rattle.kt_world.proofs.Shared.{IsAlive, note_at-next, MayNote, Holds}
+use Rattle.kt_state.specs.Updating.{no_update}
+use Rattle.kt_state.specs.Updating.{updated}
+use Rattle.kt_scenario.specs.declared.step.Step.{Step}
+use Rattle.kt_scenario.specs.declared.step.Step.TheVariants.{Deliver}
+use Rattle.kt_scenario.specs.Step.{owner}
+use Rattle.kt_model.specs.State.{State as World}
+use Rattle.kt_model.specs.Effect.{noted}
+use Rattle.kt_model.specs.auxiliary.Ready.{AreNeighbours}
+use Rattle.kt_model.proofs.Shared.{IsAlive, note_at-next, MayNote, Holds}
 use Rattle.kt_protocol.specs.Labels.{Label}
-use Rattle.kt_protocol.specs.Lines.{IsIn, here, there, Act, Sends, Hears, top_sent}
+use Rattle.kt_protocol.specs.Logs.{IsIn, here, there, Act, Sends, Hears, top_sent}
 use Rattle.kt_protocol.specs.Machine.{App, Node, State, Message, next_label as next_of}
 use Rattle.kt_protocol.specs.Steps.{sends, sending, only, change, push}
 use Rattle.kt_protocol.specs.Runs.{nothing_done, one_more}
@@ -41,15 +42,15 @@ use Rattle.kt_refinement.proofs.Links.{to}
 use Rattle.kt_refinement.proofs.Frames.{cases-node, apart-index, Refines, owner-in, nodes-at, votes-at, sends-only, leads-represents}
 use Rattle.kt_refinement.proofs.Known.{alive-is, up-is, near-is}
 use Rattle.kt_refinement.proofs.Acting.{sent-more, heard-unsent, known-more}
-use Rattle.kt_refinement.proofs.Acted.{act_turn, acted-is}
+use Rattle.kt_refinement.proofs.Acted.{act_update, acted-is}
 use Rattle.kt_tuple.proofs.Shared.{node_eq-refl}
 use Rattle.kt_refinement.proofs.Kept.{node-else}
 
 -- the plan of an act that sends to q
-abbrev pub saying_plan : BodyChange → NodeId → RealPost → Done → Plan
-saying_plan body q post a = record {
-  change = changes.Turn record no_turn { body = body; said = Some q };
-  send = (q, messages.Post post) ∷ [];
+abbrev pub saying_plan : BodyChange → NodeId → RealAppMessage → Done → Plan
+saying_plan body q app a = record {
+  change = changes.Update record no_update { body = body; said = Some q };
+  send = (q, messages.App app) ∷ [];
   note = Some (notes.Act a);
   write = None;
 }
@@ -60,10 +61,10 @@ next-same n x life count =
     let more : n.count + 1 ≡ suc x.count = omega (arith, count) in
     ap (λ (i : ℕ). record { life = i; count = n.count + 1 }) life ∙ ap (λ (k : ℕ). record { life = x.life; count = k }) more
 
-pub sent-alone : (o : NodeId) (q r : NodeId) (post : RealPost) (m : Message) → m ≡ App record { by = post.by; label = label_of post.label }
-    → only (node_index q) m (node_index r) ≡ carried (to r ((q, messages.Post post) ∷ []))
+pub sent-alone : (o : NodeId) (q r : NodeId) (app : RealAppMessage) (m : Message) → m ≡ App record { by = app.by; label = label_of app.label }
+    → only (node_index q) m (node_index r) ≡ carried (to r ((q, messages.App app) ∷ []))
 unfolding carried to
-sent-alone o q r post m same = elim (cases-node r q) [
+sent-alone o q r app m same = elim (cases-node r q) [
   | inl e ↦ rw (eq-eqb (node_index r) (node_index q) (ap node_index e)) (rw (ap (node_eq q) e ∙ node_eq-refl q) (ap (λ x. x ∷ []) same))
   | inr d ↦ rw (ne_eqb (node_index r) (node_index q) (apart-index r q d)) (rw (node-else q r (λ e. d (sym e))) refl)
 ]
@@ -86,19 +87,19 @@ said-next h a p by own saying is = (
   record { act = a; is_act = ap (note_at (h ++ notes.Act a ∷ [])) is ∙ note_at-next h (notes.Act a); own = ap node_index own; saying = saying },
 )
 
-pub says_so : (s : World) (c : State) → Represents s c → Holds s → (step : Step) (n : Live) (body : BodyChange) (q : NodeId) (post : RealPost) (a : Done)
-    → ((x y : NodeId) → step ≡ Deliver x y → ⊥) → IsAlive s (owner step) n → n.phase ≡ phases.Up → AreNeighbours s.cast (owner step) q
-    → a.node ≡ owner step → IsSaying a.what → (a.by ≢ 0 → IsKnown a.by (c.node (node_index (owner step))).line)
-    → post.by ≡ length s.history + 1 → post.label ≡ next_label n
-    → MayNote s.cast s.history (owner step) (Some (notes.Act a)) → Refines s step (saying_plan body q post a) c
-says_so s c is h step n body q post a no_delivery alive up near own saying cause by_is label_is may = record {
+pub says_so : (s : World) (c : State) → Represents s c → Holds s → (step : Step) (n : Live) (body : BodyChange) (q : NodeId) (app : RealAppMessage) (a : Done)
+    → ((x y : NodeId) → step ≡ Deliver x y → ⊥) → IsAlive s (owner step) n → n.phase ≡ phases.Up → AreNeighbours s.scene (owner step) q
+    → a.node ≡ owner step → IsSaying a.what → (a.by ≢ 0 → IsKnown a.by (c.node (node_index (owner step))).log)
+    → app.by ≡ length s.history + 1 → app.label ≡ next_label n
+    → MayNote s.scene s.history (owner step) (Some (notes.Act a)) → Refines s step (saying_plan body q app a) c
+says_so s c is h step n body q app a no_delivery alive up near own saying cause by_is label_is may = record {
   next = next;
-  run = one_more nothing_done (sends o (node_index q) post.by (near-is s p q near) (up-is s c is p n alive up));
-  fresh = inr (tt, said-next s.history a p post.by own saying by_is);
+  run = one_more nothing_done (sends o (node_index q) app.by (near-is s p q near) (up-is s c is p n alive up));
+  fresh = inr (tt, said-next s.history a p app.by own saying by_is);
   stands = leads-represents s step plan c next is (record {
     nodes = nodes-at s step plan c new is may (λ r d. refl) (owner-in s step plan (Some (Alive n)) new alive becomes);
     board = is.board;
-    links = sends-only s step plan c (only (node_index q) message) no_delivery (λ r far. sent-alone p q r post message same);
+    links = sends-only s step plan c (only (node_index q) message) no_delivery (λ r far. sent-alone p q r app message same);
     votes = votes-at c o new (λ v i. i);
     cast = (tt, tt);
   });
@@ -110,44 +111,44 @@ says_so s c is h step n body q post a no_delivery alive up near own saying cause
   o = node_index (owner step)
 
   plan : Plan
-  plan = saying_plan body q post a
+  plan = saying_plan body q app a
 
   message : Message
-  message = App record { by = post.by; label = next_of (c.node o) }
+  message = App record { by = app.by; label = next_of (c.node o) }
 
   new : Node
-  new = sending post.by (node_index q) (c.node o)
+  new = sending app.by (node_index q) (c.node o)
 
   next : State
-  next = change o (sending post.by (node_index q)) (push o (only (node_index q) message) c)
+  next = change o (sending app.by (node_index q)) (push o (only (node_index q) message) c)
 
-  was : NodeIn s.cast s.history s.content (owner step) (Some (Alive n)) (c.node (node_index (owner step)))
+  was : NodeIn s.scene s.history s.content (owner step) (Some (Alive n)) (c.node (node_index (owner step)))
   was = alive-is s c is p n alive
 
   label : label_of (next_label n) ≡ next_of (c.node o)
   label = next-same n (c.node o) was.state.life was.state.count
 
-  same : message ≡ App record { by = post.by; label = label_of post.label }
-  same = ap (λ l. App record { by = post.by; label = l }) (sym label ∙ ap label_of (sym label_is))
+  same : message ≡ App record { by = app.by; label = label_of app.label }
+  same = ap (λ l. App record { by = app.by; label = l }) (sym label ∙ ap label_of (sym label_is))
 
-  heard : IsKnown a.by (c.node o).line → IsKnown a.by (Sends post.by (node_index q) (next_of (c.node o)) ∷ (c.node o).line)
-  heard k = known-more (Sends post.by (node_index q) (next_of (c.node o)) ∷ []) (c.node o).line a.by k
+  heard : IsKnown a.by (c.node o).log → IsKnown a.by (Sends app.by (node_index q) (next_of (c.node o)) ∷ (c.node o).log)
+  heard k = known-more (Sends app.by (node_index q) (next_of (c.node o)) ∷ []) (c.node o).log a.by k
 
   Sent : Label → Type 0
-  Sent l = LabelsAre s.cast p (label_at (put no_label n.sent (node_number q) (next_label n))) top_sent (Sends post.by (node_index q) l ∷ (c.node o).line)
+  Sent l = LabelsAre s.scene p (label_at (put no_label n.sent (node_number q) (next_label n))) top_sent (Sends app.by (node_index q) l ∷ (c.node o).log)
 
-  becomes : NodeIs s.cast (s.history ++ notes.Act a ∷ []) p (line (s.history ++ notes.Act a ∷ []) p)
-      (Some (Alive (turned (act_turn body keeps.Stay None (Some q)) n))) (row_of s.content p) (verdict_on s.content (row_of s.content p).tentative) new
-  becomes = acted-is s c is h p n body keeps.Stay None (Some q) a (Sends post.by (node_index q) (next_of (c.node o)) ∷ []) (suc (c.node o).count)
+  becomes : NodeIs s.scene (s.history ++ notes.Act a ∷ []) p (log (s.history ++ notes.Act a ∷ []) p)
+      (Some (Alive (updated (act_update body keeps.Stay None (Some q)) n))) (row_of s.content p) (verdict_on s.content (row_of s.content p).tentative) new
+  becomes = acted-is s c is h p n body keeps.Stay None (Some q) a (Sends app.by (node_index q) (next_of (c.node o)) ∷ []) (suc (c.node o).count)
       (c.node o).kept alive up (record {
         own = own;
-        sends = λ b z l i. only-its-own (length s.history + 1) post.by (node_index q) (next_of (c.node o)) b z l i by_is;
-        says = λ t. says-here post.by (length s.history + 1) (node_index q) (next_of (c.node o)) [] by_is;
-        hears = λ b x l i. none-heard post.by (node_index q) (next_of (c.node o)) a.by b x l i;
+        sends = λ b z l i. only-its-own (length s.history + 1) app.by (node_index q) (next_of (c.node o)) b z l i by_is;
+        says = λ t. says-here app.by (length s.history + 1) (node_index q) (next_of (c.node o)) [] by_is;
+        hears = λ b x l i. none-heard app.by (node_index q) (next_of (c.node o)) a.by b x l i;
         cause = λ some. heard (cause some);
         talks = (tt, tt);
         counted = let e = was.state.count in omega (arith, e);
-        sent = subst Sent label (sent-more s.cast p q n.sent (next_label n) post.by (c.node o).line near was.state.sent);
-        received = heard-unsent s.cast p (label_at n.received) post.by (node_index q) (next_of (c.node o)) (c.node o).line was.state.received;
+        sent = subst Sent label (sent-more s.scene p q n.sent (next_label n) app.by (c.node o).log near was.state.sent);
+        received = heard-unsent s.scene p (label_at n.received) app.by (node_index q) (next_of (c.node o)) (c.node o).log was.state.received;
         keeps = was.state.kept;
       })

@@ -1,14 +1,15 @@
 -- Votes and verdicts are nothing to the machine's links.
+-- Cited by Answering, CountsVote, Dropping, GoesOn, JoinsCheck, Releases, RollsBack, Verdicts, Voting.
 use Rattle.std.proofs.Common.{◌≡◌, Bool, true, false, List, [], ◌∷◌, ◌++◌, drop}
 use Rattle.std.proofs.Common.{refl, sym, ap, subst, ◌∙◌, append-nil}
 use Rattle.std.specs.List.{AllByRecursion}
 use Rattle.kt_tuple.specs.declared.node.NodeId.{NodeId}
 use Rattle.kt_tuple.specs.Node.{node_index}
-use Rattle.kt_node.specs.declared.message.Message.{Message as RealMessage}
-use Rattle.kt_node.specs.declared.plan.Plan.{Plan}
-use Rattle.kt_world.specs.declared.step.Step.TheVariants.{Deliver}
-use Rattle.kt_world.specs.State.{State as World, link}
-use Rattle.kt_world.proofs.Shared.{Comes}
+use Rattle.kt_state.specs.declared.message.Message.{Message as RealMessage}
+use Rattle.kt_state.specs.declared.plan.Plan.{Plan}
+use Rattle.kt_scenario.specs.declared.step.Step.TheVariants.{Deliver}
+use Rattle.kt_model.specs.State.{State as World, link}
+use Rattle.kt_model.proofs.Shared.{Comes}
 use Rattle.kt_protocol.specs.Machine.{State}
 use Rattle.kt_refinement.proofs.Represents.{carried_one, carried, Represents}
 use Rattle.kt_refinement.proofs.Links.{to}
@@ -33,7 +34,7 @@ pub links-silent : (s : World) (p q : NodeId) (plan : Plan) (c : State) (m : Rea
     → AllByRecursion IsSilent plan.send → LinksLead s (Deliver p q) plan c c.link
 unfolding carried
 links-silent s p q plan c m is comes none silent =
-    let d = neighbours-apart s.cast p q comes.neighbours in record {
+    let d = neighbours-apart s.scene p q comes.neighbours in record {
       own = λ r near. sym (append-nil _) ∙ ap (λ l. c.link (node_index q) (node_index r) ++ l) (sym (silent-to r plan.send silent));
       taken = λ a b e near.
           let P : NodeId → Type 0 = λ z. c.link (node_index z) (node_index b) ≡ carried (drop 1 (link s z b)) in

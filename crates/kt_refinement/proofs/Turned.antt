@@ -1,38 +1,39 @@
 -- How a step makes a node that is up vote: it begins a check, or joins a check or a rollback that it is asked for.
+-- Cited by Forcing, Lasting.
 use Rattle.std.proofs.Common.{◌≡◌, false, IsTrue, Option, Some, None, inl, inr, refl, sym, ap, subst, ◌∙◌}
 use Rattle.std.specs.Option.{option_map}
 use Rattle.std.specs.Prelude.{unwrap_or}
 use Rattle.kt_tuple.specs.declared.node.NodeId.{NodeId}
-use Rattle.kt_node.specs.declared.message.Ask.{Ask as RealAsk}
-use Rattle.kt_node.specs.declared.message.Message.TheVariants as messages
-use Rattle.kt_node.specs.declared.message.Post.{Post as RealPost}
-use Rattle.kt_node.specs.declared.live.Phase.{Phase}
-use Rattle.kt_node.specs.declared.live.Phase.TheVariants as phases
-use Rattle.kt_node.specs.declared.node.Mode.{Mode}
-use Rattle.kt_node.specs.declared.node.Mode.TheVariants as modes
-use Rattle.kt_node.specs.declared.change.Change.{Change}
-use Rattle.kt_node.specs.declared.change.KeptChange.{KeptChange}
-use Rattle.kt_node.specs.declared.change.KeptChange.TheVariants as keeps
-use Rattle.kt_node.specs.declared.plan.Plan.{Plan}
+use Rattle.kt_state.specs.declared.message.Ask.{Ask as RealAsk}
+use Rattle.kt_state.specs.declared.message.Message.TheVariants as messages
+use Rattle.kt_state.specs.declared.message.AppMessage.{AppMessage as RealAppMessage}
+use Rattle.kt_state.specs.declared.live.Phase.{Phase}
+use Rattle.kt_state.specs.declared.live.Phase.TheVariants as phases
+use Rattle.kt_state.specs.declared.node.Mode.{Mode}
+use Rattle.kt_state.specs.declared.node.Mode.TheVariants as modes
+use Rattle.kt_state.specs.declared.change.Change.{Change}
+use Rattle.kt_state.specs.declared.change.KeptChange.{KeptChange}
+use Rattle.kt_state.specs.declared.change.KeptChange.TheVariants as keeps
+use Rattle.kt_state.specs.declared.plan.Plan.{Plan}
 use Rattle.kt_node.specs.declared.reaction.Reaction.TheVariants as reactions
-use Rattle.kt_node.specs.Labels.{up_to, label_at}
-use Rattle.kt_node.specs.Node.{Node as RealNode, Live, Alive, Down as IsDownNode, node_number, mode_in, mode_of}
-use Rattle.kt_node.specs.Stored.{is_undecided}
+use Rattle.kt_state.specs.Labels.{up_to, label_at}
+use Rattle.kt_state.specs.Node.{Node as RealNode, Live, Alive, Down as IsDownNode, node_number, mode_in, mode_of}
+use Rattle.kt_state.specs.Stored.{is_undecided}
 use Rattle.kt_node.specs.Arrivals.{check_reaction}
-use Rattle.kt_node.specs.Turning.{changed}
+use Rattle.kt_state.specs.Updating.{changed}
 use Rattle.kt_vote.specs.Poll.{Poll}
-use Rattle.kt_world.specs.declared.step.Step.{Step}
-use Rattle.kt_world.specs.declared.step.Step.TheVariants.{Deliver, Check}
-use Rattle.kt_world.specs.declared.told.Told.{Told}
-use Rattle.kt_world.specs.Step.{owner}
-use Rattle.kt_world.specs.State.{State as World, node, view}
-use Rattle.kt_world.specs.Effect.{applied}
-use Rattle.kt_world.specs.Forced.{IsIn}
-use Rattle.kt_world.proofs.Shared.{applied-owner, applied-other}
-use Rattle.kt_world.proofs.Heards as ways
-use Rattle.kt_world.proofs.Shared.{HeardOf, heard-is}
-use Rattle.kt_world.proofs.Plans as plans
-use Rattle.kt_world.proofs.Shared.{PlanOf, IsAlive, IsDown, Comes, Votes}
+use Rattle.kt_scenario.specs.declared.step.Step.{Step}
+use Rattle.kt_scenario.specs.declared.step.Step.TheVariants.{Deliver, Check}
+use Rattle.kt_model.specs.declared.store_reads.StoreReads.{StoreReads}
+use Rattle.kt_scenario.specs.Step.{owner}
+use Rattle.kt_model.specs.State.{State as World, node, view}
+use Rattle.kt_model.specs.Effect.{applied}
+use Rattle.kt_model.specs.Forced.{IsIn}
+use Rattle.kt_model.proofs.Shared.{applied-owner, applied-other}
+use Rattle.kt_model.proofs.Heards as ways
+use Rattle.kt_model.proofs.Shared.{HeardOf, heard-is}
+use Rattle.kt_model.proofs.Plans as plans
+use Rattle.kt_model.proofs.Shared.{PlanOf, IsAlive, IsDown, Comes, Votes}
 use Rattle.kt_refinement.proofs.Frames.{cases-node}
 
 -- the node votes in an instance
@@ -43,7 +44,7 @@ IsVoting modes.Rolling = Unit {0}
 IsVoting modes.Down = ⊥
 
 -- what makes p, which is up, vote in this mode
-pub data Starts (s : World) (t : Told) (p : NodeId) : Step → Mode → Type 0 where
+pub data Starts (s : World) (t : StoreReads) (p : NodeId) : Step → Mode → Type 0 where
   begins : Starts s t p (Check p) modes.Held
   joins_check : {x : NodeId} {n : Live} {ask : RealAsk} → Comes s x p (messages.CheckAsk ask) → IsAlive s p n → n.phase ≡ phases.Up
       → IsTrue (is_undecided t.verdict) → check_reaction n x ask t.verdict t.permanent t.tentative ≡ reactions.Joins
@@ -108,29 +109,29 @@ still phases.Up e v = v
 still (phases.Held b) e v = absurd (cc (e))
 still (phases.Rolling b) e v = absurd (cc (e))
 
-heard-stays : (s : World) (p from : NodeId) (n : Live) (kept : KeptChange) (post : RealPost) (plan : Plan) → HeardOf (view s p) n kept from post plan
+heard-stays : (s : World) (p from : NodeId) (n : Live) (kept : KeptChange) (app : RealAppMessage) (plan : Plan) → HeardOf (view s p) n kept from app plan
     → Stays s p plan.change
-heard-stays s p from n kept post plan (ways.misses_request body talk) m alive up v = still m.phase up v
-heard-stays s p from n kept post plan (ways.accepts body talk awaited) m alive up v = still m.phase up v
-heard-stays s p from n kept post plan (ways.ignores_reply body talk other) m alive up v = still m.phase up v
-heard-stays s p from n kept post plan (ways.hears body talk new) m alive up v = still m.phase up v
-heard-stays s p from n kept post plan (ways.answers_again body talk old has) m alive up v = still m.phase up v
-heard-stays s p from n kept post plan (ways.ignores_request body talk old none) m alive up v = still m.phase up v
-heard-stays s p from n kept post plan (ways.misses_reply body talk) m alive up v = still m.phase up v
+heard-stays s p from n kept app plan (ways.misses_request body talk) m alive up v = still m.phase up v
+heard-stays s p from n kept app plan (ways.accepts body talk awaited) m alive up v = still m.phase up v
+heard-stays s p from n kept app plan (ways.ignores_reply body talk other) m alive up v = still m.phase up v
+heard-stays s p from n kept app plan (ways.hears body talk new) m alive up v = still m.phase up v
+heard-stays s p from n kept app plan (ways.answers_again body talk old has) m alive up v = still m.phase up v
+heard-stays s p from n kept app plan (ways.ignores_request body talk old none) m alive up v = still m.phase up v
+heard-stays s p from n kept app plan (ways.misses_reply body talk) m alive up v = still m.phase up v
 
 -- the plan starts a vote, or does not
-data Turns (s : World) (t : Told) (step : Step) (plan : Plan) : Type 0 where
+data Turns (s : World) (t : StoreReads) (step : Step) (plan : Plan) : Type 0 where
   starts : (mode : Mode) → Starts s t (owner step) step mode → ((n : Live) → mode_of (changed plan.change (Alive n)) ≡ mode) → Turns s t step plan
   leaves : Stays s (owner step) plan.change → Turns s t step plan
 
-turns : (s : World) (t : Told) (step : Step) (plan : Plan) → IsUp s (owner step) → PlanOf s t step plan → Turns s t step plan
+turns : (s : World) (t : StoreReads) (step : Step) (plan : Plan) → IsUp s (owner step) → PlanOf s t step plan → Turns s t step plan
 turns s t step plan u (plans.issues there at up body kept next) = leaves (λ n alive up v. still n.phase up v)
 turns s t step plan u (plans.repeats there at up body again) = leaves (λ n alive up v. still n.phase up v)
 turns s t step plan u (plans.serves there other at up body gives) = leaves (λ n alive up v. still n.phase up v)
-turns s t step plan u (plans.takes {p = p} {from = from} {n = n} {post = post} there at up kept) =
-    leaves (heard-stays s p from n keeps.TakeFirst post plan (heard-is (view s p) n keeps.TakeFirst from post))
-turns s t step plan u (plans.hears {p = p} {q = q} {n = n} {post = post} comes at up kept) =
-    leaves (heard-stays s q p n keeps.Stay post plan (heard-is (view s q) n keeps.Stay p post))
+turns s t step plan u (plans.takes {p = p} {from = from} {n = n} {app = app} there at up kept) =
+    leaves (heard-stays s p from n keeps.TakeFirst app plan (heard-is (view s p) n keeps.TakeFirst from app))
+turns s t step plan u (plans.hears {p = p} {q = q} {n = n} {app = app} comes at up kept) =
+    leaves (heard-stays s q p n keeps.Stay app plan (heard-is (view s q) n keeps.Stay p app))
 turns s t step plan u (plans.puts_by comes at rolls) = leaves (λ n alive up v. still n.phase up v)
 turns s t step plan u (plans.drops comes may) = leaves (λ n alive up v. still n.phase up v)
 turns s t step plan u (plans.answers_check comes at says) = leaves (λ n alive up v. still n.phase up v)
@@ -157,7 +158,8 @@ turns s t step plan u (plans.restarts {p = p} there down has free loads) = not-d
 turns s t step plan u (plans.restarts_anew {p = p} {n = n} {b = b} there at rolls own refused loads) = not-rolling s p u n b at rolls
 
 -- a node that was up votes behind the step
-pub why_votes : (s : World) (t : Told) (step : Step) (plan : Plan) → PlanOf s t step plan → (p : NodeId) → IsIn s p modes.Up → (mode : Mode) → IsVoting mode
+pub why_votes : (s : World) (t : StoreReads) (step : Step) (plan : Plan) → PlanOf s t step plan → (p : NodeId) → IsIn s p modes.Up → (mode : Mode)
+    → IsVoting mode
     → IsIn (applied s step plan) p mode → Starts s t p step mode
 why_votes s t step plan of p was mode voting now = elim (cases-node (owner step) p) [
   | inl e ↦

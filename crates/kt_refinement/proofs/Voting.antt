@@ -1,5 +1,6 @@
 -- A vote that comes and is counted, and the vote that it may make the node cast: one or two steps of the machine. And a
 -- participant that votes no of itself.
+-- Cited by CountsVote, GoesOn, JoinsCheck, Refining.
 use Rattle.std.proofs.Common.{◌≡◌, ◌≢◌, ℕ, Bool, true, false, not, ◌||◌, cond, IsTrue, List}
 use Rattle.std.proofs.Common.{[], ◌∷◌, filter, Option, Some, None, inl, inr, refl, sym, ap, subst, ◌∙◌}
 use Rattle.std.specs.List.{AllByRecursion, list_any}
@@ -10,18 +11,18 @@ use Rattle.kt_tuple.specs.Node.{node_index, node_eq, node_eq_decides}
 use Rattle.kt_vote.specs.declared.asker.Asker.{Asker}
 use Rattle.kt_vote.specs.declared.vote.Vote.{Vote as RealVote}
 use Rattle.kt_vote.specs.Poll.{Poll, counts, counted, is_awaited, is_on, outcome_of}
-use Rattle.kt_node.specs.declared.live.Phase.{Phase}
-use Rattle.kt_node.specs.declared.live.Phase.TheVariants as phases
-use Rattle.kt_node.specs.Node.{Live, Alive}
-use Rattle.kt_node.specs.Plan.{no_turn}
-use Rattle.kt_node.specs.Turning.{turned}
-use Rattle.kt_node.specs.Voting.{casting, casting_to, vote_for, voted, votes}
+use Rattle.kt_state.specs.declared.live.Phase.{Phase}
+use Rattle.kt_state.specs.declared.live.Phase.TheVariants as phases
+use Rattle.kt_state.specs.Node.{Live, Alive}
+use Rattle.kt_state.specs.Updating.{no_update}
+use Rattle.kt_state.specs.Updating.{updated}
+use Rattle.kt_state.specs.Voting.{casting, casting_to, vote_for, voted, votes}
 use Rattle.kt_node.specs.Deciding.{declined_plan}
-use Rattle.kt_world.specs.declared.step.Step.TheVariants.{Abandon}
-use Rattle.kt_world.specs.State.{State as World}
-use Rattle.kt_world.proofs.Shared.{IsAlive, Votes as VotesSo, holds, rolls}
+use Rattle.kt_scenario.specs.declared.step.Step.TheVariants.{Abandon}
+use Rattle.kt_model.specs.State.{State as World}
+use Rattle.kt_model.proofs.Shared.{IsAlive, Votes as VotesSo, holds, rolls}
 use Rattle.kt_protocol.specs.Labels.{at}
-use Rattle.kt_protocol.specs.Lines.{IsIn, here, there}
+use Rattle.kt_protocol.specs.Logs.{IsIn, here, there}
 use Rattle.kt_protocol.specs.Machine.{Instance, Check, Rollback, Key, Ballot, Mode, Within, Vote, Mark, Node, State}
 use Rattle.kt_protocol.specs.Steps as machine
 use Rattle.kt_protocol.specs.Steps.{change, answering, consenting, agrees, declines}
@@ -95,11 +96,11 @@ voted-is b life x is = record { parent = is.parent; awaited = is.awaited; refuse
 
 -- ---- a node that does something else from now on
 
-pub phase-turned : (s : World) (p : NodeId) (n : Live) (x : Node) (f : Phase) (mode : Mode) (of : List Vote) (said : List Mark)
-    → NodeIn s.cast s.history s.content p (Some (Alive n)) x → PhaseIs f x.life mode
-    → NodeIn s.cast s.history s.content p (Some (Alive (turned record no_turn { phase = Some f } n))) record x { mode = mode; votes = of; said = said }
-phase-turned s p n x f mode of said was phase = record {
-  line = was.line;
+pub phase-updated : (s : World) (p : NodeId) (n : Live) (x : Node) (f : Phase) (mode : Mode) (of : List Vote) (said : List Mark)
+    → NodeIn s.scene s.history s.content p (Some (Alive n)) x → PhaseIs f x.life mode
+    → NodeIn s.scene s.history s.content p (Some (Alive (updated record no_update { phase = Some f } n))) record x { mode = mode; votes = of; said = said }
+phase-updated s p n x f mode of said was phase = record {
+  log = was.log;
   life = was.life;
   state = record {
     phase = phase;
@@ -126,11 +127,11 @@ is_due b = by b.parent refl where
   outcome parent e f None g = nothing
   outcome parent e f (Some agreed) g = due parent agreed e f g
 
-  unless : (parent : Asker) → b.parent ≡ Some parent → (v : Bool) → b.voted ≡ v → IsDue b (Rattle.kt_node.specs.Voting.casting_unless v b parent)
+  unless : (parent : Asker) → b.parent ≡ Some parent → (v : Bool) → b.voted ≡ v → IsDue b (Rattle.kt_state.specs.Voting.casting_unless v b parent)
   unless parent e true f = nothing
   unless parent e false f = outcome parent e f (outcome_of b) refl
 
-  by : (o : Option Asker) → b.parent ≡ o → IsDue b (Rattle.kt_node.specs.Voting.casting_of b o)
+  by : (o : Option Asker) → b.parent ≡ o → IsDue b (Rattle.kt_state.specs.Voting.casting_of b o)
   by None e = nothing
   by (Some parent) e = unless parent e b.voted refl
 
@@ -155,15 +156,15 @@ casts-step peer c o i b life x parent false within is has unvoted outcome = reco
 }
 
 pub cast-is : (s : World) (p : NodeId) (n : Live) (x : Node) (phase : Poll → Phase) (k : IsKind phase) (b : Poll) (ballot : Ballot) (key : Key) (agreed : Bool)
-    → NodeIn s.cast s.history s.content p (Some (Alive n)) x → BallotIs b x.life ballot
-    → NodeIn s.cast s.history s.content p (Some (Alive (turned record no_turn { phase = Some (phase (voted b)) } n))) (cast_node
+    → NodeIn s.scene s.history s.content p (Some (Alive n)) x → BallotIs b x.life ballot
+    → NodeIn s.scene s.history s.content p (Some (Alive (updated record no_update { phase = Some (phase (voted b)) } n))) (cast_node
     (k.kind b.instance) ballot key agreed x)
 cast-is s p n x phase k b ballot key true was is =
-    phase-turned s p n x (phase (voted b)) (Within (k.kind b.instance) record ballot { voted = true }) _ _ was
+    phase-updated s p n x (phase (voted b)) (Within (k.kind b.instance) record ballot { voted = true }) _ _ was
     (k.into (voted b) x.life (Within (k.kind b.instance) record ballot { voted = true })
     (record { ballot = record ballot { voted = true }; within = refl; is = voted-is b x.life ballot is }))
 cast-is s p n x phase k b ballot key false was is =
-    phase-turned s p n x (phase (voted b)) (Within (k.kind b.instance) record ballot { voted = true }) _ _ was
+    phase-updated s p n x (phase (voted b)) (Within (k.kind b.instance) record ballot { voted = true }) _ _ was
     (k.into (voted b) x.life (Within (k.kind b.instance) record ballot { voted = true })
     (record { ballot = record ballot { voted = true }; within = refl; is = voted-is b x.life ballot is }))
 
@@ -188,7 +189,7 @@ declines-so s c is p n b phase k parent alive votes has unvoted =
     let key = asker_key parent in
     let new : Node = cast_node i votes.ballot key false (c.node o) in
     let next : State = change o (cast_node i votes.ballot key false) c in
-    let last = casts-step (peers s.cast) c o i b (c.node o).life votes.ballot parent false votes.within votes.is has unvoted (λ e. absurd (cc (e))) in
+    let last = casts-step (peers s.scene) c o i b (c.node o).life votes.ballot parent false votes.within votes.is has unvoted (λ e. absurd (cc (e))) in
     record {
       next = next;
       run = one_more nothing_done last.step;

@@ -1,16 +1,19 @@
 -- Of every state that steps lead to: the permanent checkpoints hold one run, in order, and while no node is down or rolls
 -- back, nothing that is remembered has lost anything of its past. So all that is promised holds.
+-- Cited by Leaving, `laws::a_resumed_world_has_the_permanent_services`, `laws::all_that_is_promised_holds`,
+--   `laws::nothing_remembered_is_lost_in_steady_states`, `laws::permanent_checkpoints_are_causally_closed`,
+--   `laws::permanent_tuples_are_those_of_one_run`, `laws::steady_shards_hold_the_survivors_tuples`; kt_core.
 use Rattle.std.proofs.Common.{◌≡◌, ℕ, zero, suc, true, Bool, List, [], ◌∷◌, None, IsTrue, refl, subst}
 use Rattle.std.specs.List.{list_all}
 use Rattle.kt_tuple.specs.Node.{node_index}
 use Rattle.kt_history.proofs.Shared.{CausesComeFirst-from_well_formed}
 use Rattle.kt_shard.specs.Table.{at}
-use Rattle.kt_world.specs.State.{State as World}
-use Rattle.kt_world.specs.Reached.{IsReached}
-use Rattle.kt_world.specs.Cut.{IsCausallyClosed, acts_held, permanent_length}
-use Rattle.kt_world.specs.Headline.{Headline, IsSteady, IsSteadyRun, is_steady, is_steady_row}
-use Rattle.kt_world.specs.PermanentRun.{IsPermanentRun}
-use Rattle.kt_world.proofs.Shared.{one_run-reached, reached-holds, permanent-reached, permanent-settled, settled, stores-reached}
+use Rattle.kt_model.specs.State.{State as World}
+use Rattle.kt_model.specs.Reached.{IsReached}
+use Rattle.kt_model.specs.Cut.{IsCausallyClosed, acts_held, permanent_length}
+use Rattle.kt_model.specs.Headline.{Headline, IsSteady, IsSteadyRun, is_steady, is_steady_row}
+use Rattle.kt_model.specs.PermanentRun.{IsPermanentRun}
+use Rattle.kt_model.proofs.Shared.{one_run-reached, reached-holds, permanent-reached, permanent-settled, settled, stores-reached}
 use Rattle.std.proofs.lemmas.Bool.{and_parts}
 use Rattle.kt_refinement.proofs.Refined.{stands-invariant}
 use Rattle.kt_refinement.proofs.Resuming.{reached-stands}

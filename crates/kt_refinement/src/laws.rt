@@ -2,18 +2,19 @@
 //! speak of every state that a list of steps, refused ones among them, leads to from the opening of a scene whose
 //! scripts a checkpoint can count, over a store that tells what it holds, or from what such a store holds that fits the
 //! scene.
+//! Cited by no other file of crates/.
 
 ghost use Rattle.std.specs.Prelude.{◌≡◌, ℕ, Ok, IsPermutation, IsTrue};
 ghost use Rattle.kt_history.specs.Survival.{Stands, Survives, services};
-ghost use Rattle.kt_world.specs.declared.step.Step.{Step};
-ghost use Rattle.kt_world.specs.State.{State};
-ghost use Rattle.kt_world.specs.Effect.{step_result};
-ghost use Rattle.kt_world.specs.Reached.{IsReached};
-ghost use Rattle.kt_world.specs.Cut.{IsCausallyClosed, part, permanent_length};
-ghost use Rattle.kt_world.specs.Forced.{IsForced};
-ghost use Rattle.kt_world.specs.Headline.{Headline, IsSteadyRun, is_steady};
-ghost use Rattle.kt_world.specs.PermanentRun.{IsPermanentRun};
-ghost use Rattle.kt_world.specs.Resumed.{AreFit, history_of};
+ghost use Rattle.kt_scenario.specs.declared.step.Step.{Step};
+ghost use Rattle.kt_model.specs.State.{State};
+ghost use Rattle.kt_model.specs.Effect.{step_result};
+ghost use Rattle.kt_model.specs.Reached.{IsReached};
+ghost use Rattle.kt_model.specs.Cut.{IsCausallyClosed, part, permanent_length};
+ghost use Rattle.kt_model.specs.Forced.{IsForced};
+ghost use Rattle.kt_model.specs.Headline.{Headline, IsSteadyRun, is_steady};
+ghost use Rattle.kt_model.specs.PermanentRun.{IsPermanentRun};
+ghost use Rattle.kt_model.specs.Resumed.{AreFit, history_of};
 
 /// Each act that the permanent checkpoints hold has all of its past among them: they are a consistent cut (Koo and
 /// Toueg, "Checkpointing and Rollback-Recovery for Distributed Systems"). A tentative checkpoint counts from the moment
@@ -55,12 +56,12 @@ pub fn all_that_is_promised_holds()
 
 /// What a world leaves in its store, whatever steps were made, fits its scene: a world goes on from it.
 pub fn what_a_world_leaves_can_be_resumed()
-    ensures fits { (s : State) → IsReached s → AreFit s.cast s.content }
+    ensures fits { (s : State) → IsReached s → AreFit s.scene s.content }
 {}
 
 /// A world that goes on from what another left has the services that the permanent checkpoints held there, and no
 /// other: in some order, which need not be the one in which they were made.
 pub fn a_resumed_world_has_the_permanent_services()
     ensures services { (s : State) → IsReached s
-        → IsPermutation (part s.history (permanent_length s.content)) (services (history_of s.cast s.content)) }
+        → IsPermutation (part s.history (permanent_length s.content)) (services (history_of s.scene s.content)) }
 {}

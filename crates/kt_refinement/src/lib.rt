@@ -4,8 +4,8 @@
 //! - Contract: every state that steps lead to keeps the headline (the law `all_that_is_promised_holds`, clause
 //!   `headline`). The survivors are one run, and in a steady state nothing remembered is lost. The permanent
 //!   checkpoints are a consistent cut.
-//! - Stands on: kt_tuple, kt_script, kt_space, kt_link, kt_shard, kt_worker, kt_vote, kt_history, kt_ckpt, kt_store,
-//!   kt_protocol, kt_lines, kt_node, kt_world
+//! - Stands on: kt_tuple, kt_script, kt_space, kt_link, kt_shard, kt_worker, kt_vote, kt_history, kt_scenario, kt_ckpt,
+//!   kt_store, kt_protocol, kt_logs, kt_state, kt_node, kt_model
 //! - Used by: kt_core
 //! - Begin in: `laws.rt`, then `proofs/Represents.antt`: how a state of the world stands for one of the machine.
 #![tactic(auto)]

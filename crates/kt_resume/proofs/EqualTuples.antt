@@ -1,4 +1,5 @@
 -- Tuples that equal another, found by the template that fits that one alone, and tuples that a template does not find.
+-- Cited by Suited, `space::finds_none`, `space::reads`, `space::take_equal`, `space::withdraw`.
 use Rattle.std.proofs.Common.{◌≡◌, Bool, true, false, not, List, ◌∷◌, Contains, IsPermutation, Option, Some, None, Bor, is_some, refl, sym, ap, subst, ◌∙◌}
 use Rattle.std.specs.Prelude.{◌↔◌, IsTrue}
 use Rattle.std.specs.List.{slice_get}
@@ -44,7 +45,8 @@ pub none_found : (t : Template) (xs : List Tuple) (o : Option (Bor Tuple)) (none
 none_found t xs None none e s h = (nothing_matches t xs (sym e), IsPermutation-refl xs)
 none_found t xs (Some v) none e s h = let apart : true ≡ false = s ∙ ap not h in absurd (false≢true (sym apart))
 
-pub none_matches : (t : Template) (xs : List Tuple) (o : Option (Bor Tuple)) (none : Bool) → option_copied o ≡ slice_get (matching t xs) 0 → is_some o ≡ not none
+pub none_matches : (t : Template) (xs : List Tuple) (o : Option (Bor Tuple)) (none : Bool) → option_copied o ≡ slice_get (matching t xs) 0
+    → is_some o ≡ not none
     → ((u : Tuple) → Contains xs u → ¬ Matches t u) → IsTrue none
 none_matches t xs None true e s unlike = refl
 none_matches t xs None false e s unlike = absurd (false≢true s)

@@ -1,5 +1,7 @@
 -- What was found of a node is what the content of what was found says of it, and how many acts there are of it.
-use Rattle.std.proofs.Common.{◌≡◌, ◌≢◌, ℕ, zero, suc, ◌+◌, ◌<◌, ◌≤◌, Bool, true, false, cond, List, [], ◌∷◌, ◌++◌, length, map, drop, Option, None, Some, refl, sym, ap, ◌∙◌, subst, arith}
+-- Cited by `found::checkpoint_of`, `found::incarnation_of`, `judging::is_fit`, `logs::history_of`, `logs::logs_of`.
+use Rattle.std.proofs.Common.{◌≡◌, ◌≢◌, ℕ, zero, suc, ◌+◌, ◌<◌, ◌≤◌, Bool, true, false, cond, List, [], ◌∷◌, ◌++◌, length, map, drop, Option, None, Some, refl}
+use Rattle.std.proofs.Common.{sym, ap, ◌∙◌, subst, arith}
 use Rattle.std.specs.List.{AllByRecursion, find}
 use Rattle.std.specs.Option.{option_map}
 use Rattle.std.proofs.lemmas.List.Elements.{All-head, All-tail}
@@ -8,23 +10,23 @@ use Rattle.std.specs.declared.alloc.AllocError.{AllocError}
 use Rattle.kt_history.specs.declared.history.History.{History}
 use Rattle.kt_tuple.specs.declared.node.NodeId.{NodeId}
 use Rattle.kt_tuple.specs.Node.{is_before, node_eq}
-use Rattle.kt_history.specs.Line.{line}
-use Rattle.kt_history.proofs.Lines.{line-empty}
-use Rattle.kt_ckpt.specs.declared.acts.LineAct.{LineAct}
+use Rattle.kt_history.specs.Log.{log}
+use Rattle.kt_history.proofs.Logs.{log-empty}
+use Rattle.kt_ckpt.specs.declared.acts.LogAct.{LogAct}
 use Rattle.kt_ckpt.specs.declared.ckpt.Ckpt.{Ckpt}
 use Rattle.kt_store.specs.declared.rows.NodeRow.{NodeRow}
 use Rattle.kt_store.specs.Content.{Content, row_of, row_or, verdict_on}
-use Rattle.kt_world.specs.Cast.{Cast}
-use Rattle.kt_world.specs.Cut.{permanent_by, permanent_length, permanent_of}
-use Rattle.kt_world.specs.Placing.{Acts, placed as all_placed}
-use Rattle.kt_world.specs.Resumed.{acts_of, all_held, history_of, nodes_of, sum_of}
-use Rattle.kt_world.proofs.Together.{scene-rises}
-use Rattle.kt_world.proofs.Sums.{AreInOrder, not_before_itself}
+use Rattle.kt_scenario.specs.Scene.{SceneModel}
+use Rattle.kt_model.specs.Cut.{permanent_by, permanent_length, permanent_of}
+use Rattle.kt_model.specs.Placing.{Acts, placed as all_placed}
+use Rattle.kt_model.specs.Resumed.{acts_of, all_held, history_of, nodes_of, sum_of}
+use Rattle.kt_model.proofs.Together.{scene-rises}
+use Rattle.kt_model.proofs.Sums.{AreInOrder, not_before_itself}
 use Rattle.kt_resume.specs.declared.found.Found.{Found}
 use Rattle.kt_resume.specs.Found.{content_of, row_from}
-use Rattle.kt_resume.specs.inner.Found.{found_of}
+use Rattle.kt_resume.specs.auxiliary.Found.{found_of}
 use Rattle.kt_resume.specs.Turns.{AreApart, AreLeft, count_left, nodes_in}
-use Rattle.kt_resume.specs.inner.Next.{line_of}
+use Rattle.kt_resume.specs.auxiliary.Next.{log_of}
 use Rattle.kt_resume.specs.Unplaced.{Left}
 
 -- ---- what was found of a node
@@ -50,7 +52,8 @@ pub permanent-found : (found : List Found) (p : NodeId) (o : Option Found) → f
 permanent-found found p o is =
     ap (λ (r : NodeRow). permanent_by (verdict_on (content_of found) r.tentative) r.tentative r.permanent) (row-found found p o is) ∙ by o where
       by : (o : Option Found)
-          → permanent_by (verdict_on (content_of found) (row_or p (option_map row_from o)).tentative) (row_or p (option_map row_from o)).tentative (row_or p (option_map row_from o)).permanent
+          → permanent_by (verdict_on (content_of found) (row_or p (option_map row_from o)).tentative) (row_or p (option_map row_from o)).tentative
+          (row_or p (option_map row_from o)).permanent
           ≡ checkpoint_in o
       by None = refl
       by (Some f) = refl
@@ -62,24 +65,24 @@ tentative-none found p = ap (λ (r : NodeRow). r.tentative) (row-found found p (
   by None = refl
   by (Some f) = refl
 
--- ---- the lines that are to be placed
+-- ---- the logs that are to be placed
 
-pub lines-nodes : (acts : Acts) (nodes : List NodeId) → nodes_in (map (line_of acts) nodes) ≡ nodes
-lines-nodes acts [] = refl
-lines-nodes acts (p ∷ later) = ap (λ l. p ∷ l) (lines-nodes acts later)
+pub logs-nodes : (acts : Acts) (nodes : List NodeId) → nodes_in (map (log_of acts) nodes) ≡ nodes
+logs-nodes acts [] = refl
+logs-nodes acts (p ∷ later) = ap (λ l. p ∷ l) (logs-nodes acts later)
 
-pub lines-left : (acts : Acts) (nodes : List NodeId) → AreLeft acts [] (map (line_of acts) nodes)
-lines-left acts [] = tt
-lines-left acts (p ∷ later) = (ap (λ (l : List ℕ). drop (length l) (acts p)) (sym (line-empty p)), lines-left acts later)
+pub logs-left : (acts : Acts) (nodes : List NodeId) → AreLeft acts [] (map (log_of acts) nodes)
+logs-left acts [] = tt
+logs-left acts (p ∷ later) = (ap (λ (l : List ℕ). drop (length l) (acts p)) (sym (log-empty p)), logs-left acts later)
 
-pub lines-count : (c : Content) (nodes : List NodeId) → All (λ p. length (acts_of c p) ≡ permanent_length c p) nodes
-    → count_left (map (line_of (acts_of c)) nodes) ≡ all_held c nodes
+pub logs-count : (c : Content) (nodes : List NodeId) → All (λ p. length (acts_of c p) ≡ permanent_length c p) nodes
+    → count_left (map (log_of (acts_of c)) nodes) ≡ all_held c nodes
 unfolding count_left sum_of
-lines-count c [] long = refl
-lines-count c (p ∷ later) long =
+logs-count c [] long = refl
+logs-count c (p ∷ later) long =
     let Q : NodeId → Type 0 = λ q. length (acts_of c q) ≡ permanent_length c q in
     let here : length (acts_of c p) ≡ permanent_length c p = All-head Q p later long in
-    let rest = lines-count c later (All-tail Q p later long) in
+    let rest = logs-count c later (All-tail Q p later long) in
     omega (arith, here, rest)
 
 -- nodes that rise are apart
@@ -95,19 +98,19 @@ apart-rising (p ∷ later) rise = (others later rise.0, apart-rising later rise.
     others xs all.1,
   )
 
-pub line-is : (acts : Acts) (p : NodeId) (x : Left) → x.node ≡ p → x.acts ≡ acts p → x ≡ line_of acts p
-line-is acts p x node same = λ i. record { node = node i; acts = same i }
+pub log-is : (acts : Acts) (p : NodeId) (x : Left) → x.node ≡ p → x.acts ≡ acts p → x ≡ log_of acts p
+log-is acts p x node same = λ i. record { node = node i; acts = same i }
 
--- what is placed of all lines is the history of what was found
-pub placed-history : (cast : Cast) (c : Content) (nodes : List NodeId) (lines : List Left) (r : Result History AllocError) → nodes ≡ nodes_of cast
-    → lines ≡ map (line_of (acts_of c)) nodes → All (λ p. length (acts_of c p) ≡ permanent_length c p) nodes
-    → IfOk r (λ (h : History). (acts : Acts) → AreApart (nodes_in lines) → AreLeft acts [] lines → h.notes ≡ all_placed acts (nodes_in lines) (count_left lines) [])
-    → IfOk r (λ (h : History). h.notes ≡ history_of cast c)
-placed-history cast c nodes lines (Err e) all is long placed = placed
-placed-history cast c nodes lines (Ok h) all is long placed =
-    let names : nodes_in lines ≡ nodes_of cast = ap nodes_in is ∙ lines-nodes (acts_of c) nodes ∙ all in
-    let count : count_left lines ≡ all_held c (nodes_of cast) = ap count_left is ∙ lines-count c nodes long ∙ ap (all_held c) all in
-    placed (acts_of c) (subst AreApart (sym names) (apart-rising (nodes_of cast) (scene-rises cast)))
-    (subst (AreLeft (acts_of c) []) (sym is) (lines-left (acts_of c) nodes))
-    ∙ ap (λ (l : List NodeId). all_placed (acts_of c) l (count_left lines) []) names
-    ∙ ap (λ n. all_placed (acts_of c) (nodes_of cast) n []) count
+-- what is placed of all logs is the history of what was found
+pub placed-history : (scene : SceneModel) (c : Content) (nodes : List NodeId) (logs : List Left) (r : Result History AllocError) → nodes ≡ nodes_of scene
+    → logs ≡ map (log_of (acts_of c)) nodes → All (λ p. length (acts_of c p) ≡ permanent_length c p) nodes
+    → IfOk r (λ (h : History). (acts : Acts) → AreApart (nodes_in logs) → AreLeft acts [] logs → h.notes ≡ all_placed acts (nodes_in logs) (count_left logs) [])
+    → IfOk r (λ (h : History). h.notes ≡ history_of scene c)
+placed-history scene c nodes logs (Err e) all is long placed = placed
+placed-history scene c nodes logs (Ok h) all is long placed =
+    let names : nodes_in logs ≡ nodes_of scene = ap nodes_in is ∙ logs-nodes (acts_of c) nodes ∙ all in
+    let count : count_left logs ≡ all_held c (nodes_of scene) = ap count_left is ∙ logs-count c nodes long ∙ ap (all_held c) all in
+    placed (acts_of c) (subst AreApart (sym names) (apart-rising (nodes_of scene) (scene-rises scene)))
+    (subst (AreLeft (acts_of c) []) (sym is) (logs-left (acts_of c) nodes))
+    ∙ ap (λ (l : List NodeId). all_placed (acts_of c) l (count_left logs) []) names
+    ∙ ap (λ n. all_placed (acts_of c) (nodes_of scene) n []) count

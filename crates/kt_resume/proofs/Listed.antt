@@ -1,10 +1,11 @@
 -- A list of what workers have, by rising worker.
+-- Cited by `entries::has_entries`.
 use Rattle.std.proofs.Common.{◌≡◌, ℕ, zero, suc, ◌+◌, ◌<◌, ◌≤◌, Bool, IsTrue, List, [], ◌∷◌, ◌++◌, length, refl, sym, ap, ◌∙◌, arith, eq-eqb, eqb-true}
 use Rattle.std.specs.Prelude.{◌==◌, ◌↔◌}
 use Rattle.std.specs.List.{flat_map}
 use Rattle.std.proofs.lemmas.List.{append-nil, append_assoc, append_cancel_left, nil_from_length}
-use Rattle.kt_node.specs.Labels.{numbers}
-use Rattle.kt_node.proofs.Numbers.{flat_from_one}
+use Rattle.kt_state.specs.Labels.{numbers}
+use Rattle.kt_state.proofs.Numbers.{flat_from_one}
 
 -- the worker's part of it stands behind those of the workers before
 pub listed-more : {A : Type 0} (f : ℕ → List A) (n : ℕ) (listed rest behind : List A) → listed ≡ flat_map f (numbers 1 n) ++ rest → rest ≡ f (n + 1) ++ behind
@@ -14,7 +15,8 @@ listed-more f n listed rest behind is more =
     ∙ ap (λ l. l ++ behind) (sym (flat_from_one f n))
 
 -- the list of more workers begins with that of fewer and the next one's part
-listed-begins : {A : Type 0} (f : ℕ → List A) (n more : ℕ) → (later : List A) × (flat_map f (numbers 1 (n + 1 + more)) ≡ flat_map f (numbers 1 n) ++ (f (n + 1) ++ later))
+listed-begins : {A : Type 0} (f : ℕ → List A) (n more : ℕ) → (later : List A)
+    × (flat_map f (numbers 1 (n + 1 + more)) ≡ flat_map f (numbers 1 n) ++ (f (n + 1) ++ later))
 listed-begins f n zero =
     let one : n + 1 + 0 ≡ n + 1 = omega arith in
     ([], ap (λ k. flat_map f (numbers 1 k)) one ∙ flat_from_one f n ∙ ap (λ l. flat_map f (numbers 1 n) ++ l) (sym (append-nil (f (n + 1)))))

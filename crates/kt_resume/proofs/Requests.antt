@@ -1,4 +1,6 @@
 -- Requests that are one, and the answer that is kept of one.
+-- Cited by `CachedReplyEntry::equals`, `RequestEntry::equals`, `Slot::answers_again`, `Slot::ignores`,
+--   `Slot::waits_with`, `suits::are_same`.
 use Rattle.std.proofs.Common.{◌≡◌, ℕ, ◌≤◌, Bool, true, false, not, Option, Some, None, Bor, is_some, refl, sym, ap, subst, ◌∙◌, eq-eqb, eqb-true, Decides}
 use Rattle.std.specs.Prelude.{◌==◌, ◌↔◌, IsTrue}
 use Rattle.std.specs.Option.{option_copied}
@@ -8,11 +10,11 @@ use Rattle.kt_tuple.specs.declared.op.Answer.{Answer}
 use Rattle.kt_tuple.specs.declared.op.Op.{Op}
 use Rattle.kt_tuple.specs.Op.{answer_eq, answer_eq_decides, op_eq, op_eq_decides}
 use Rattle.kt_shard.specs.declared.request.Request.{Request}
-use Rattle.kt_shard.specs.declared.request.Kept.{Kept}
-use Rattle.kt_shard.specs.declared.desk.Desk.{Desk}
-use Rattle.kt_shard.specs.Desk.{kept_answer, newest, same_request}
-use Rattle.kt_lines.specs.ShardLine.{AnswersAgain, Ignores}
-use Rattle.kt_world.proofs.ShardPlans.{kept_answer-is, kept_answer-none}
+use Rattle.kt_shard.specs.declared.request.CachedReply.{CachedReply}
+use Rattle.kt_shard.specs.declared.session.Session.{Session}
+use Rattle.kt_shard.specs.Session.{cached_answer, newest, same_request}
+use Rattle.kt_logs.specs.ShardLog.{AnswersAgain, Ignores}
+use Rattle.kt_model.proofs.ShardPlans.{cached_answer-is, cached_answer-none}
 
 pub same_request_decides : (a b : Request) → Decides (same_request a b) (a ≡ b)
 same_request_decides a b = (
@@ -34,10 +36,10 @@ request_eq a b same n e = (
 )
 
 -- two answers that are kept of one request
-pub kept_eq : (a b : Kept) (same : Bool) → a.request ≡ b.request → same ≡ answer_eq a.answer b.answer → IsTrue same ↔ (a ≡ b)
-kept_eq a b same n e = (
+pub cached_eq : (a b : CachedReply) (same : Bool) → a.request ≡ b.request → same ≡ answer_eq a.answer b.answer → IsTrue same ↔ (a ≡ b)
+cached_eq a b same n e = (
   λ h. let o : a.answer ≡ b.answer = (answer_eq_decides a.answer b.answer).0 (sym e ∙ h) in λ i. record { request = n i; answer = o i },
-  λ is. e ∙ (answer_eq_decides a.answer b.answer).1 (ap (λ (k : Kept). k.answer) is),
+  λ is. e ∙ (answer_eq_decides a.answer b.answer).1 (ap (λ (k : CachedReply). k.answer) is),
 )
 
 -- two operations, where there are two
@@ -57,27 +59,28 @@ waits_is waiting request other same is e = (
 
 -- ---- the answer that is kept
 
-kept_once : (d : Desk) (request : Request) (x y : Answer) → AnswersAgain request x d → AnswersAgain request y d → x ≡ y
-kept_once d request x y a b =
+cached_once : (d : Session) (request : Request) (x y : Answer) → AnswersAgain request x d → AnswersAgain request y d → x ≡ y
+cached_once d request x y a b =
     let one = same_Some (record { request = request; answer = x }) (record { request = request; answer = y }) (sym a.1 ∙ b.1) in
-    ap (λ (k : Kept). k.answer) one
+    ap (λ (k : CachedReply). k.answer) one
 
-pub again_some : (d : Desk) (request : Request) (kept answer : Answer) (same : Bool) → Some kept ≡ kept_answer d request → same ≡ answer_eq kept answer
+pub again_some : (d : Session) (request : Request) (cached answer : Answer) (same : Bool) → Some cached ≡ cached_answer d request
+    → same ≡ answer_eq cached answer
     → IsTrue same ↔ AnswersAgain request answer d
-again_some d request kept answer same found is = (
-  λ yes. kept_answer-is d request answer (sym found ∙ ap (λ a. Some a) ((answer_eq_decides kept answer).0 (sym is ∙ yes))),
-  λ again. is ∙ (answer_eq_decides kept answer).1 (kept_once d request kept answer (kept_answer-is d request kept (sym found)) again),
+again_some d request cached answer same found is = (
+  λ yes. cached_answer-is d request answer (sym found ∙ ap (λ a. Some a) ((answer_eq_decides cached answer).0 (sym is ∙ yes))),
+  λ again. is ∙ (answer_eq_decides cached answer).1 (cached_once d request cached answer (cached_answer-is d request cached (sym found)) again),
 )
 
-pub again_none : (d : Desk) (request : Request) (answer : Answer) → None ≡ kept_answer d request → IsTrue false ↔ AnswersAgain request answer d
-again_none d request answer found = (λ h. absurd (false≢true h), λ again. absurd (kept_answer-none d request (sym found) answer again))
+pub again_none : (d : Session) (request : Request) (answer : Answer) → None ≡ cached_answer d request → IsTrue false ↔ AnswersAgain request answer d
+again_none d request answer found = (λ h. absurd (false≢true h), λ again. absurd (cached_answer-none d request (sym found) answer again))
 
 -- what is not new is ignored just where no answer to it is kept
-pub ignored : (d : Desk) (request : Request) (o : Option (Bor Answer)) (none : Bool) → option_copied o ≡ kept_answer d request → is_some o ≡ not none
+pub ignored : (d : Session) (request : Request) (o : Option (Bor Answer)) (none : Bool) → option_copied o ≡ cached_answer d request → is_some o ≡ not none
     → request.number ≤ newest d → IsTrue none ↔ Ignores request d
-ignored d request None true e s le = (λ _. (le, kept_answer-none d request (sym e)), λ _. refl)
+ignored d request None true e s le = (λ _. (le, cached_answer-none d request (sym e)), λ _. refl)
 ignored d request None false e s le = absurd (false≢true s)
 ignored d request (Some x) none e s le = (
   λ h. let apart : true ≡ false = s ∙ ap not h in absurd (false≢true (sym apart)),
-  λ h. absurd (h.1 x.now (kept_answer-is d request x.now (sym e))),
+  λ h. absurd (h.1 x.now (cached_answer-is d request x.now (sym e))),
 )

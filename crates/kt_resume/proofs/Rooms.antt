@@ -1,5 +1,7 @@
 -- How many acts the nodes before one hold, of a front of the scene's nodes.
-use Rattle.std.proofs.Common.{◌≡◌, ℕ, zero, suc, ◌+◌, ◌<◌, ◌≤◌, Bool, true, false, cond, List, [], ◌∷◌, ◌++◌, length, map, filter, take, drop, get_or, refl, sym, ap, ◌∙◌, subst, arith, take-append-drop}
+-- Cited by `parts::are_its_acts`, `parts::room_behind`.
+use Rattle.std.proofs.Common.{◌≡◌, ℕ, zero, suc, ◌+◌, ◌<◌, ◌≤◌, Bool, true, false, cond, List, [], ◌∷◌, ◌++◌, length, map, filter, take, drop, get_or, refl}
+use Rattle.std.proofs.Common.{sym, ap, ◌∙◌, subst, arith, take-append-drop}
 use Rattle.std.proofs.Common.{Bor}
 use Rattle.std.specs.Prelude.{◌&&◌}
 use Rattle.std.specs.List.{list_all}
@@ -7,8 +9,8 @@ use Rattle.std.proofs.lemmas.List.{map-append}
 use Rattle.std.proofs.lemmas.List.Elements.{filter-append, filter_more}
 use Rattle.kt_tuple.specs.declared.node.NodeId.{NodeId}
 use Rattle.kt_store.specs.Content.{Content}
-use Rattle.kt_world.specs.Cut.{permanent_length}
-use Rattle.kt_world.specs.Resumed.{all_held, sum_of}
+use Rattle.kt_model.specs.Cut.{permanent_length}
+use Rattle.kt_model.specs.Resumed.{all_held, sum_of}
 
 sum-append : (xs ys : List ℕ) → sum_of (xs ++ ys) ≡ sum_of xs + sum_of ys
 unfolding sum_of
@@ -34,7 +36,8 @@ module _ (c : Content) (passes : NodeId → Bool) (nodes : List NodeId) where
       let p = get_or nodes i d in
       let one = held-one c p in
       let both = held-append c (filter passes (take i nodes)) (p ∷ []) in
-      ap (all_held c) (filter_more passes nodes i d lt) ∙ ap (λ b. all_held c (filter passes (take i nodes) ++ cond b (p ∷ []) [])) is ∙ omega (arith, one, both)
+      ap (all_held c) (filter_more passes nodes i d lt) ∙ ap (λ b. all_held c (filter passes (take i nodes) ++ cond b (p ∷ []) [])) is
+      ∙ omega (arith, one, both)
 
   -- another one adds none
   pub held-other : (i : ℕ) (d : NodeId) → i < length nodes → passes (get_or nodes i d) ≡ false
@@ -43,7 +46,8 @@ module _ (c : Content) (passes : NodeId → Bool) (nodes : List NodeId) where
       let p = get_or nodes i d in
       let none = held-none c in
       let both = held-append c (filter passes (take i nodes)) [] in
-      ap (all_held c) (filter_more passes nodes i d lt) ∙ ap (λ b. all_held c (filter passes (take i nodes) ++ cond b (p ∷ []) [])) is ∙ omega (arith, none, both)
+      ap (all_held c) (filter_more passes nodes i d lt) ∙ ap (λ b. all_held c (filter passes (take i nodes) ++ cond b (p ∷ []) [])) is
+      ∙ omega (arith, none, both)
 
   -- a front holds no more than all
   pub held-front : (i : ℕ) → all_held c (filter passes (take i nodes)) ≤ all_held c (filter passes nodes)
@@ -54,6 +58,7 @@ module _ (c : Content) (passes : NodeId → Bool) (nodes : List NodeId) where
       omega (arith, split, both)
 
 -- a test of what is lent
-pub all-lent : {X : Type 0} (test : X → Bool) (lent : List (Bor X)) → list_all (λ (x : Bor X). test x.now) lent ≡ list_all test (map (λ (x : Bor X). x.now) lent)
+pub all-lent : {X : Type 0} (test : X → Bool) (lent : List (Bor X))
+    → list_all (λ (x : Bor X). test x.now) lent ≡ list_all test (map (λ (x : Bor X). x.now) lent)
 all-lent test [] = refl
 all-lent test (x ∷ later) = ap (λ b. test x.now && b) (all-lent test later)

@@ -1,5 +1,8 @@
--- When what a checkpoint has of its node is what the acts of its line made again.
-use Rattle.std.proofs.Common.{◌≡◌, ℕ, Bool, IsTrue, zero, suc, ◌+◌, ◌<◌, ◌≤◌, List, [], ◌∷◌, ◌++◌, length, map, take, get_or, Contains, IsPermutation, Option, Some, None, refl, sym, ap, subst, ◌∙◌, arith, inl, inr}
+-- When what a checkpoint has of its node is what the acts of its log made again.
+-- Cited by `suits::are_empty_outside`, `suits::has_just`, `suits::is_stored_as`, `suits::suits_shard`,
+--   `suits::suits_worker`.
+use Rattle.std.proofs.Common.{◌≡◌, ℕ, Bool, IsTrue, zero, suc, ◌+◌, ◌<◌, ◌≤◌, List, [], ◌∷◌, ◌++◌, length, map, take, get_or, Contains, IsPermutation, Option}
+use Rattle.std.proofs.Common.{Some, None, refl, sym, ap, subst, ◌∙◌, arith, inl, inr}
 use Rattle.std.specs.Prelude.{◌↔◌}
 use Rattle.std.specs.List.{slice_get}
 use Rattle.std.proofs.lemmas.List.{append-nil, get_or_past}
@@ -13,40 +16,40 @@ use Rattle.kt_tuple.specs.declared.tuple.Tuple.{Tuple}
 use Rattle.kt_tuple.specs.declared.op.Answer.{Answer}
 use Rattle.kt_script.specs.declared.command.Command.{Command}
 use Rattle.kt_history.proofs.Shared.{IsPermutation-uncons}
-use Rattle.kt_shard.specs.declared.desk.Desk.{Desk}
-use Rattle.kt_shard.specs.Desk.{empty_desk}
+use Rattle.kt_shard.specs.declared.session.Session.{Session}
+use Rattle.kt_shard.specs.Session.{empty_session}
 use Rattle.kt_shard.specs.Shard.{Shard}
 use Rattle.kt_shard.specs.Table.{at}
-use Rattle.kt_worker.specs.Standing.{Standing}
+use Rattle.kt_worker.specs.WorkerModel.{WorkerModel}
 use Rattle.kt_worker.specs.After.{last_number, position_when}
 use Rattle.kt_ckpt.specs.Fields.{ShardFields, WorkerFields}
-use Rattle.kt_lines.specs.ShardLine.{MadeShard}
-use Rattle.kt_lines.specs.WorkerLine.{MadeWorker}
-use Rattle.kt_node.specs.State.{entries, shard_fields, worker_fields}
-use Rattle.kt_world.specs.Cast.{script_at}
-use Rattle.kt_world.specs.Like.{IsShardLike, IsWorkerLike}
+use Rattle.kt_logs.specs.ShardLog.{MadeShard}
+use Rattle.kt_logs.specs.WorkerLog.{MadeWorker}
+use Rattle.kt_state.specs.State.{entries, shard_fields, worker_fields}
+use Rattle.kt_scenario.specs.Scene.{script_at}
+use Rattle.kt_model.specs.Like.{IsShardLike, IsWorkerLike}
 use Rattle.kt_resume.specs.Remade.{IsRemade, RemadeShard, Slot, empty_slot}
 use Rattle.kt_resume.specs.Suits.{SuitsShard, SuitsWorker}
-use Rattle.kt_resume.specs.inner.Suits.{HasDesks}
+use Rattle.kt_resume.specs.auxiliary.Suits.{HasSessions}
 use Rattle.kt_resume.proofs.EqualTuples.{taken_there}
 use Rattle.kt_resume.proofs.Remakes.{slot_at}
 
 -- ---- a worker
 
 -- acts leave one way alone for a worker to stand
-pub one_standing : (script : List Command) (made : MadeWorker) (x y : Standing) → IsWorkerLike script made x → IsWorkerLike script made y → x ≡ y
-one_standing script made x y a b =
+pub one_model : (script : List Command) (made : MadeWorker) (x y : WorkerModel) → IsWorkerLike script made x → IsWorkerLike script made y → x ≡ y
+one_model script made x y a b =
     let asked : x.asked ≡ y.asked = a.asked ∙ sym b.asked in
     let number : x.number ≡ y.number = a.after.number ∙ ap (λ o. last_number o (length made.answers)) asked ∙ sym b.after.number in
     let position : x.position ≡ y.position = a.after.position ∙ ap (λ o. position_when o script made.answers) asked ∙ sym b.after.position in
     λ i. record { number = number i; asked = asked i; position = position i }
 
-pub worker_suits : (script : List Command) (made : MadeWorker) (x : Standing) (stored : WorkerFields) → IsWorkerLike script made x
+pub worker_suits : (script : List Command) (made : MadeWorker) (x : WorkerModel) (stored : WorkerFields) → IsWorkerLike script made x
     → (stored ≡ worker_fields x) ↔ SuitsWorker script made stored
-worker_suits script made x stored like = (λ e. (x, e, like), λ (y, e, other). e ∙ ap worker_fields (one_standing script made y x other like))
+worker_suits script made x stored like = (λ e. (x, e, like), λ (y, e, other). e ∙ ap worker_fields (one_model script made y x other like))
 
 -- a worker stands so where each field is the same
-pub fields_same : (s : WorkerFields) (x : Standing) (xs ys : List Value) (same : Bool) → s.pc ≡ x.position.pc → s.number ≡ x.number
+pub fields_same : (s : WorkerFields) (x : WorkerModel) (xs ys : List Value) (same : Bool) → s.pc ≡ x.position.pc → s.number ≡ x.number
     → s.was_none ≡ x.position.memory.was_none → s.asked ≡ x.asked → xs ≡ s.variables → ys ≡ x.position.memory.values → same ≡ pointwise value_eq xs ys
     → IsTrue same ↔ (s ≡ worker_fields x)
 fields_same s x xs ys same pc number was_none asked mine its is = (
@@ -88,10 +91,10 @@ bag-end bag tuples left so_far = (
 
 -- ---- a shard
 
-at-desks : (slots : List Slot) (w : ℕ) → at empty_desk (map (λ (s : Slot). s.desk) slots) w ≡ (at empty_slot slots w).desk
-at-desks [] w = refl
-at-desks (s ∷ slots) zero = refl
-at-desks (s ∷ slots) (suc w) = at-desks slots w
+at-sessions : (slots : List Slot) (w : ℕ) → at empty_session (map (λ (s : Slot). s.session) slots) w ≡ (at empty_slot slots w).session
+at-sessions [] w = refl
+at-sessions (s ∷ slots) zero = refl
+at-sessions (s ∷ slots) (suc w) = at-sessions slots w
 
 -- a number that is not among the scripts' has none
 no_script : (scripts : List (List Command)) (n : ℕ) → ¬ ((1 ≤ n) × (n ≤ length scripts)) → script_at scripts n ≡ None
@@ -108,46 +111,46 @@ outside scripts (suc n) none within = elim (slice_get_cases scripts n).1 [
   | inr past ↦ let long = past.0 in let short = within.1 in absurd (omega (arith, long, short))
 ]
 
--- the desks that may not be used are empty
+-- the sessions that may not be used are empty
 abbrev pub AreEmptyOutside : ℕ → List Slot → ℕ → Type 0
-AreEmptyOutside workers slots n = (k : ℕ) → k < n → ¬ ((1 ≤ k) × (k ≤ workers)) → (at empty_slot slots k).desk ≡ empty_desk
+AreEmptyOutside workers slots n = (k : ℕ) → k < n → ¬ ((1 ≤ k) × (k ≤ workers)) → (at empty_slot slots k).session ≡ empty_session
 
 pub empty-more : (workers : ℕ) (slots : List Slot) (n : ℕ) (slot : Slot) → AreEmptyOutside workers slots n → n < length slots → slot ≡ get_or slots n slot
-    → (¬ ((1 ≤ n) × (n ≤ workers)) → slot.desk ≡ empty_desk) → AreEmptyOutside workers slots (n + 1)
+    → (¬ ((1 ≤ n) × (n ≤ workers)) → slot.session ≡ empty_session) → AreEmptyOutside workers slots (n + 1)
 empty-more workers slots n slot before lt is here k below out = elim (cases_lt k n) [
   | inl less ↦ before k less out
   | inr above ↦
       let same : k ≡ n = omega (arith, below, above) in
       let found : slot ≡ at empty_slot slots n = slot_at slots n slot lt is in
-      ap (λ m. (at empty_slot slots m).desk) same ∙ ap (λ (s : Slot). s.desk) (sym found) ∙ here (subst (λ m. ¬ ((1 ≤ m) × (m ≤ workers))) same out)
+      ap (λ m. (at empty_slot slots m).session) same ∙ ap (λ (s : Slot). s.session) (sym found) ∙ here (subst (λ m. ¬ ((1 ≤ m) × (m ≤ workers))) same out)
 ]
 
 pub empty-all : (workers : ℕ) (slots : List Slot) (n : ℕ) → AreEmptyOutside workers slots n → length slots ≤ n → (k : ℕ) → ¬ ((1 ≤ k) × (k ≤ workers))
-    → (at empty_slot slots k).desk ≡ empty_desk
+    → (at empty_slot slots k).session ≡ empty_session
 empty-all workers slots n before past k out = elim (cases_lt k n) [
   | inl less ↦ before k less out
-  | inr above ↦ ap (λ (s : Slot). s.desk) (get_or_past slots k empty_slot (omega (arith, past, above)))
+  | inr above ↦ ap (λ (s : Slot). s.session) (get_or_past slots k empty_slot (omega (arith, past, above)))
 ]
 
--- the checkpoint has the tuples and the desks that were made again, and those of no worker of the scene are empty
+-- the checkpoint has the tuples and the sessions that were made again, and those of no worker of the scene are empty
 pub record IsSuited (workers : ℕ) (r : RemadeShard) (stored : ShardFields) : Type 0 where
   pub bag : IsPermutation r.bag stored.bag
-  pub desks : HasDesks workers r.slots stored
+  pub sessions : HasSessions workers r.slots stored
 
 pub suited-suits : (workers : ℕ) (scripts : List (List Command)) (made : MadeShard) (r : RemadeShard) (stored : ShardFields) → length scripts ≡ workers
     → IsRemade made r → IsSuited workers r stored → SuitsShard scripts made stored
 suited-suits workers scripts made r stored many like is =
-    let desks = map (λ (s : Slot). s.desk) r.slots in
-    let y : Shard = record { bag = stored.bag; desks = desks } in
-    let same : (λ (w : ℕ). (at empty_slot r.slots w).desk) ≡ (λ (w : ℕ). at empty_desk desks w) = λ i w. sym (at-desks r.slots w) i in
-    let waiting = is.desks.waiting ∙ ap (λ (of : ℕ → Desk). entries (λ w. (of w).waiting)) same in
-    let kept = is.desks.kept ∙ ap (λ (of : ℕ → Desk). entries (λ w. (of w).kept)) same in (
+    let sessions = map (λ (s : Slot). s.session) r.slots in
+    let y : Shard = record { bag = stored.bag; sessions = sessions } in
+    let same : (λ (w : ℕ). (at empty_slot r.slots w).session) ≡ (λ (w : ℕ). at empty_session sessions w) = λ i w. sym (at-sessions r.slots w) i in
+    let waiting = is.sessions.waiting ∙ ap (λ (of : ℕ → Session). entries (λ w. (of w).waiting)) same in
+    let cached = is.sessions.cached ∙ ap (λ (of : ℕ → Session). entries (λ w. (of w).cached)) same in (
       y,
-      λ i. record { bag = stored.bag; waiting = waiting i; kept = kept i },
+      λ i. record { bag = stored.bag; waiting = waiting i; cached = cached i },
       record {
         bag = IsPermutation-trans made.bag r.bag stored.bag like.bag is.bag;
-        desks = λ w. at-desks r.slots w ∙ like.desks w;
-        others = λ w none. at-desks r.slots w ∙ is.desks.others w
+        sessions = λ w. at-sessions r.slots w ∙ like.sessions w;
+        others = λ w none. at-sessions r.slots w ∙ is.sessions.others w
             (λ within. outside scripts w none (within.0, subst (λ n. w ≤ n) (sym many) within.1));
       },
     )
@@ -155,15 +158,16 @@ suited-suits workers scripts made r stored many like is =
 pub suits-suited : (workers : ℕ) (scripts : List (List Command)) (made : MadeShard) (r : RemadeShard) (stored : ShardFields) → length scripts ≡ workers
     → IsRemade made r → SuitsShard scripts made stored → IsSuited workers r stored
 suits-suited workers scripts made r stored many like (y, saved, other) =
-    let same : (λ (w : ℕ). at empty_desk y.desks w) ≡ (λ (w : ℕ). (at empty_slot r.slots w).desk) = λ i w. (other.desks w ∙ sym (like.desks w)) i in
+    let same : (λ (w : ℕ). at empty_session y.sessions w) ≡ (λ (w : ℕ). (at empty_slot r.slots w).session) = λ i w. (other.sessions w ∙ sym (like.sessions w))
+    i in
     record {
       bag = subst (λ (l : List Tuple). IsPermutation r.bag l) (sym (ap (λ (s : ShardFields). s.bag) saved))
           (IsPermutation-trans r.bag made.bag y.bag (IsPermutation-sym made.bag r.bag like.bag) other.bag);
-      desks = record {
-        waiting = ap (λ (s : ShardFields). s.waiting) saved ∙ ap (λ (of : ℕ → Desk). entries (λ w. (of w).waiting)) same;
-        kept = ap (λ (s : ShardFields). s.kept) saved ∙ ap (λ (of : ℕ → Desk). entries (λ w. (of w).kept)) same;
+      sessions = record {
+        waiting = ap (λ (s : ShardFields). s.waiting) saved ∙ ap (λ (of : ℕ → Session). entries (λ w. (of w).waiting)) same;
+        cached = ap (λ (s : ShardFields). s.cached) saved ∙ ap (λ (of : ℕ → Session). entries (λ w. (of w).cached)) same;
         others = λ n out.
-            sym (ap (λ (of : ℕ → Desk). of n) same)
+            sym (ap (λ (of : ℕ → Session). of n) same)
             ∙ other.others n (no_script scripts n (λ within. out (within.0, subst (λ k. n ≤ k) many within.1)));
       };
     }

@@ -4,4 +4,4 @@ pub mod Found
 pub mod Remade
 pub mod Suits
 pub mod Judging
-pub mod inner
+pub mod auxiliary

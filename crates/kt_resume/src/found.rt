@@ -1,11 +1,12 @@
 //! What a store holds of its nodes.
+//! Cited by judging.rt, labels.rt, logs.rt, parts.rt; kt_core.
 
 ghost use Rattle.std.specs.Prelude.{◌≡◌};
 ghost use Rattle.std.specs.Option.{option_copied};
 ghost use Rattle.kt_store.specs.Content.{row_of};
-ghost use Rattle.kt_world.specs.Cut.{permanent_of};
+ghost use Rattle.kt_model.specs.Cut.{permanent_of};
 ghost use Rattle.kt_resume.specs.Found.{content_of};
-ghost use Rattle.kt_resume.specs.inner.Found.{found_of};
+ghost use Rattle.kt_resume.specs.auxiliary.Found.{found_of};
 
 use kt_ckpt::Ckpt;
 use kt_tuple::NodeId;
@@ -20,7 +21,7 @@ pub struct Found {
     /// The checkpoint that counts as permanent; `None` where it is the initial one.
     pub checkpoint: Option<Ckpt>,
     /// Whether the instance of its tentative checkpoint, if it has one, is on the board.
-    pub is_posted: bool,
+    pub has_instance_row: bool,
 }
 
 /// What was found of the node, if anything was.

@@ -1,10 +1,11 @@
 //! Whether what a store holds of each node fits the scene.
+//! Cited by kt_core.
 
 ghost use Rattle.std.specs.Prelude.{◌≡◌, ◌↔◌, ◌≤◌, All, IfOk, IfSome, IsTrue, None, length};
 ghost use Rattle.kt_tuple.specs.declared.node.TheConstants.{MAX_WORKERS};
-ghost use Rattle.kt_world.specs.Cast.{is_node};
-ghost use Rattle.kt_world.specs.Resumed.{FitsIn, IsFit, history_of};
-ghost use Rattle.kt_resume.specs.Found.{cast_of, content_of};
+ghost use Rattle.kt_scenario.specs.Scene.{is_node};
+ghost use Rattle.kt_model.specs.Resumed.{FitsIn, IsFit, history_of};
+ghost use Rattle.kt_resume.specs.Found.{scene_of, content_of};
 ghost use Rattle.kt_resume.specs.Judging.{IsFirstMisfit, IsGood};
 
 use crate::found::{Found, checkpoint_of};
@@ -28,15 +29,15 @@ pub fn first_unfit(
     history: &History,
 ) -> Result<Option<NodeId>, AllocError>
     requires few { length scripts.now ≤ MAX_WORKERS }
-    requires notes { history.now.notes ≡ history_of (cast_of shards scripts.now) (content_of found.now) }
+    requires notes { history.now.notes ≡ history_of (scene_of shards scripts.now) (content_of found.now) }
     ensures none { IfOk result (λ node. node ≡ None
-        → All (IsGood (cast_of shards scripts.now) (content_of found.now)) found.now) }
+        → All (IsGood (scene_of shards scripts.now) (content_of found.now)) found.now) }
     ensures first { IfOk result (λ node. IfSome node
-        (IsFirstMisfit (cast_of shards scripts.now) (content_of found.now) found.now)) }
+        (IsFirstMisfit (scene_of shards scripts.now) (content_of found.now) found.now)) }
 {
     for held in found {
         let fits = is_fit(alloc, shards, scripts, found, history, held.node)?;
-        if !(fits && held.is_posted) {
+        if !(fits && held.has_instance_row) {
             return Ok(Some(held.node));
         }
     }
@@ -54,9 +55,9 @@ pub fn is_fit(
     node: NodeId,
 ) -> Result<bool, AllocError>
     requires few { length scripts.now ≤ MAX_WORKERS }
-    requires notes { history.now.notes ≡ history_of (cast_of shards scripts.now) (content_of found.now) }
+    requires notes { history.now.notes ≡ history_of (scene_of shards scripts.now) (content_of found.now) }
     ensures { IfOk result (λ fits. IsTrue fits
-        ↔ IsFit (cast_of shards scripts.now) (content_of found.now) node) }
+        ↔ IsFit (scene_of shards scripts.now) (content_of found.now) node) }
 {
     if !is_in_scene(shards, scripts, node) {
         return Ok(false);
@@ -81,10 +82,10 @@ fn fits_in(
     node: NodeId,
 ) -> Result<bool, AllocError>
     requires few { length scripts.now ≤ MAX_WORKERS }
-    requires notes { history.now.notes ≡ history_of (cast_of shards scripts.now) (content_of found.now) }
-    requires there { IsTrue (is_node (cast_of shards scripts.now) node) }
+    requires notes { history.now.notes ≡ history_of (scene_of shards scripts.now) (content_of found.now) }
+    requires there { IsTrue (is_node (scene_of shards scripts.now) node) }
     ensures { IfOk result (λ fits. IsTrue fits
-        ↔ FitsIn (cast_of shards scripts.now) (content_of found.now) history.now.notes node) }
+        ↔ FitsIn (scene_of shards scripts.now) (content_of found.now) history.now.notes node) }
 {
     let placed = history.line(node).len() as u64;
     let Some(checkpoint) = checkpoint_of(found, node) else {

@@ -1,23 +1,24 @@
 //! Whether the labels that checkpoints have of their nodes' messages fit together.
+//! Cited by judging.rt.
 
 ghost use Rattle.std.specs.Prelude.{◌≡◌, ◌↔◌, IsTrue, not, ◌||◌};
 ghost use Rattle.std.specs.List.{list_all};
-ghost use Rattle.kt_node.specs.Labels.{listed_at, up_to};
-ghost use Rattle.kt_node.specs.Node.{node_number};
-ghost use Rattle.kt_world.specs.Cast.{Cast, is_node};
-ghost use Rattle.kt_world.specs.Resumed.{heard_from, nodes_of, sent_to};
+ghost use Rattle.kt_state.specs.Labels.{listed_at, up_to};
+ghost use Rattle.kt_state.specs.Node.{node_number};
+ghost use Rattle.kt_scenario.specs.Scene.{SceneModel, is_node};
+ghost use Rattle.kt_model.specs.Resumed.{heard_from, nodes_of, sent_to};
 ghost use Rattle.kt_resume.specs.Found.{content_of};
-ghost use Rattle.kt_resume.specs.inner.Labels.{LabelsFit, are_across, link_fits};
+ghost use Rattle.kt_resume.specs.auxiliary.Labels.{LabelsFit, are_across, link_fits};
 
 use crate::found::{Found, checkpoint_of, incarnation_of};
 use kt_link::Label;
 use kt_tuple::NodeId;
 
-/// Whether the labels of the node, which is one of these nodes of the scene, fit: of each neighbour it has heard no more
-/// than that one has sent to it, and it has sent nothing in an incarnation above its own.
+/// Whether the labels of the node, which is one of these nodes of the scene, fit: of each neighbour it has heard no
+/// more than that one has sent to it, and it has sent nothing in an incarnation above its own.
 pub(crate) fn labels_fit(nodes: &[NodeId], found: &[Found], node: NodeId) -> bool
-    ensures { (cast : Cast) → nodes.now ≡ nodes_of cast → IsTrue (is_node cast node)
-        → (IsTrue result ↔ LabelsFit cast (content_of found.now) node) }
+    ensures { (scene : SceneModel) → nodes.now ≡ nodes_of scene → IsTrue (is_node scene node)
+        → (IsTrue result ↔ LabelsFit scene (content_of found.now) node) }
 {
     all_fit(nodes, found, node)
 }

@@ -1,22 +1,23 @@
 //! Whether a checkpoint is of its node, and short enough.
+//! Cited by judging.rt.
 
 ghost use Rattle.std.specs.Prelude.{◌≡◌, ◌↔◌, ◌+◌, ◌<◌, ◌^◌, IfOk, IfSome, IsTrue, None, filter, length};
 ghost use Rattle.std.specs.List.{list_all};
 ghost use Rattle.kt_tuple.specs.Node.{is_before};
 ghost use Rattle.kt_ckpt.specs.Acts.{is_act_of};
-ghost use Rattle.kt_world.specs.Cast.{Cast};
-ghost use Rattle.kt_world.specs.Cut.{permanent_length};
-ghost use Rattle.kt_world.specs.Resumed.{IsOf, PassedAsMany, all_held};
-ghost use Rattle.kt_world.specs.State.{role_of};
+ghost use Rattle.kt_scenario.specs.Scene.{SceneModel};
+ghost use Rattle.kt_model.specs.Cut.{permanent_length};
+ghost use Rattle.kt_model.specs.Resumed.{IsOf, PassedAsMany, all_held};
+ghost use Rattle.kt_model.specs.State.{role_of};
 ghost use Rattle.kt_resume.specs.Found.{content_of};
 
 use crate::found::{Found, checkpoint_of};
-use kt_ckpt::{Ckpt, LineAct, State};
+use kt_ckpt::{Ckpt, LogAct, State};
+use kt_model::MAX_NOTES;
 use kt_tuple::NodeId;
-use kt_world::MAX_NOTES;
 use std::alloc::{AllocError, Global};
 
-/// Whether the node's line and those of the nodes before it, as found, have together no more acts than a history may
+/// Whether the node's log and those of the nodes before it, as found, have together no more acts than a history may
 /// have notes.
 pub(crate) fn is_short(nodes: &[NodeId], found: &[Found], node: NodeId) -> bool
     ensures { IsTrue result ↔ (all_held (content_of found.now) (filter (λ q. is_before q node) nodes.now)
@@ -28,7 +29,7 @@ pub(crate) fn is_short(nodes: &[NodeId], found: &[Found], node: NodeId) -> bool
     }
 }
 
-/// How many notes are left behind the lines of those of these nodes that come before the node, if they have room.
+/// How many notes are left behind the logs of those of these nodes that come before the node, if they have room.
 fn room_behind(nodes: &[NodeId], found: &[Found], node: NodeId) -> Option<u64>
     ensures none { result ≡ None
         → MAX_NOTES < all_held (content_of found.now) (filter (λ q. is_before q node) nodes.now) }
@@ -57,8 +58,8 @@ pub(crate) fn acts_of(found: &[Found], node: NodeId) -> u64
 /// Whether the checkpoint is the node's own, with a label sent to and heard from each neighbour, of which a worker has
 /// so many shards and a shard so many workers.
 pub(crate) fn is_of(shards: u8, workers: u8, node: NodeId, checkpoint: &Ckpt) -> bool
-    ensures { (cast : Cast) → cast.shards ≡ shards → length cast.scripts ≡ workers
-        → (IsTrue result ↔ IsOf cast node checkpoint.now) }
+    ensures { (scene : SceneModel) → scene.shards ≡ shards → length scene.scripts ≡ workers
+        → (IsTrue result ↔ IsOf scene node checkpoint.now) }
 {
     let peers = match node {
         NodeId::Worker(_) => shards,
@@ -80,7 +81,7 @@ fn has_passed_as_many(state: &State) -> bool
     }
 }
 
-/// Whether each act that the checkpoint holds may stand in the line of its node.
+/// Whether each act that the checkpoint holds may stand in the log of its node.
 pub(crate) fn are_its_acts(alloc: Global, checkpoint: &Ckpt) -> Result<bool, AllocError>
     ensures { IfOk result (λ are. are ≡ list_all (is_act_of checkpoint.now.node) checkpoint.now.acts) }
 {
@@ -88,7 +89,7 @@ pub(crate) fn are_its_acts(alloc: Global, checkpoint: &Ckpt) -> Result<bool, All
     Ok(are_all_of(checkpoint.node(), &acts))
 }
 
-fn are_all_of(node: NodeId, acts: &[&LineAct]) -> bool
+fn are_all_of(node: NodeId, acts: &[&LogAct]) -> bool
     ensures { result ≡ list_all (λ a. is_act_of node a.now) acts.now }
 {
     acts.iter().all(|act| act.may_be_of(node))

@@ -1,11 +1,12 @@
 //! The history of a world that is resumed: acts are placed, each once its cause is.
+//! Cited by logs.rt.
 
 ghost use Rattle.std.specs.Prelude.{◌≡◌, ◌+◌, ◌<◌, ◌∷◌, [], IfOk, IfSome, IsTrue, IsOk, Some, None, OnOk, OnErr};
 ghost use Rattle.std.specs.Prelude.{if◌then◌else◌, is_some, length, drop, slice_get};
-ghost use Rattle.kt_world.specs.Effect.{noted};
-ghost use Rattle.kt_world.specs.Placing.{Acts, number_of, placed};
+ghost use Rattle.kt_model.specs.Effect.{noted};
+ghost use Rattle.kt_model.specs.Placing.{Acts, number_of, placed};
 ghost use Rattle.kt_resume.specs.Turns.{AreApart, AreLeft, count_left, nodes_in};
-ghost use Rattle.kt_resume.specs.inner.Next.{first_in, next_in, next_at};
+ghost use Rattle.kt_resume.specs.auxiliary.Next.{first_in, next_in, next_at};
 
 use crate::unplaced::Unplaced;
 use kt_history::{Act, History, Note};
@@ -14,31 +15,31 @@ use std::alloc::{AllocError, Global};
 
 /// The history of all acts that can be placed: again and again the next act of the first node whose next act's cause is
 /// placed, or that has none. The acts are moved out of the lists, of which each is of another node.
-pub fn place_all(alloc: Global, lines: &mut [Unplaced]) -> Result<History, AllocError>
-    ensures placed { IfOk result (λ h. (acts : Acts) → AreApart (nodes_in lines.old) → AreLeft acts [] lines.old
-        → h.notes ≡ placed acts (nodes_in lines.old) (count_left lines.old) []) }
-    ensures left { IfOk result (λ h. (acts : Acts) → AreApart (nodes_in lines.old) → AreLeft acts [] lines.old
-        → AreLeft acts h.notes lines.new) }
+pub fn place_all(alloc: Global, logs: &mut [Unplaced]) -> Result<History, AllocError>
+    ensures placed { IfOk result (λ h. (acts : Acts) → AreApart (nodes_in logs.old) → AreLeft acts [] logs.old
+        → h.notes ≡ placed acts (nodes_in logs.old) (count_left logs.old) []) }
+    ensures left { IfOk result (λ h. (acts : Acts) → AreApart (nodes_in logs.old) → AreLeft acts [] logs.old
+        → AreLeft acts h.notes logs.new) }
 {
     let mut history = History::new(alloc);
-    'places: while place_next(&mut history, lines)? {}
+    'places: while place_next(&mut history, logs)? {}
     Ok(history)
 }
 
 /// Places the next act that can be, if there is one.
-fn place_next(history: &mut History, lines: &mut [Unplaced]) -> Result<bool, AllocError>
+fn place_next(history: &mut History, logs: &mut [Unplaced]) -> Result<bool, AllocError>
     ensures notes { IfOk result (λ placed.
-        history.new.notes ≡ noted history.old.notes (first_in history.old.notes lines.old)) }
-    ensures any { IfOk result (λ placed. placed ≡ is_some (first_in history.old.notes lines.old)) }
-    ensures left { IfOk result (λ placed. (acts : Acts) → AreApart (nodes_in lines.old)
-        → AreLeft acts history.old.notes lines.old → AreLeft acts history.new.notes lines.new) }
-    ensures nodes { nodes_in lines.new ≡ nodes_in lines.old }
+        history.new.notes ≡ noted history.old.notes (first_in history.old.notes logs.old)) }
+    ensures any { IfOk result (λ placed. placed ≡ is_some (first_in history.old.notes logs.old)) }
+    ensures left { IfOk result (λ placed. (acts : Acts) → AreApart (nodes_in logs.old)
+        → AreLeft acts history.old.notes logs.old → AreLeft acts history.new.notes logs.new) }
+    ensures nodes { nodes_in logs.new ≡ nodes_in logs.old }
     ensures count { IfOk result (λ placed.
-        count_left lines.old ≡ (if placed then 1 else 0) + count_left lines.new) }
+        count_left logs.old ≡ (if placed then 1 else 0) + count_left logs.new) }
 {
-    match first_ready(history, lines) {
+    match first_ready(history, logs) {
         Some(at) => {
-            place(history, &mut lines[at])?;
+            place(history, &mut logs[at])?;
             Ok(true)
         }
         None => Ok(false),
@@ -46,15 +47,15 @@ fn place_next(history: &mut History, lines: &mut [Unplaced]) -> Result<bool, All
 }
 
 /// The number of the first list whose next act can be placed, counted from 0.
-fn first_ready(history: &History, lines: &[Unplaced]) -> Option<usize>
-    ensures none { result ≡ None → first_in history.now.notes lines.now ≡ None }
+fn first_ready(history: &History, logs: &[Unplaced]) -> Option<usize>
+    ensures none { result ≡ None → first_in history.now.notes logs.now ≡ None }
     ensures first { IfSome result (λ at.
-        first_in history.now.notes lines.now ≡ next_at history.now.notes (slice_get lines.now at)) }
+        first_in history.now.notes logs.now ≡ next_at history.now.notes (slice_get logs.now at)) }
     ensures ready { IfSome result (λ at.
-        IsTrue (is_some (next_at history.now.notes (slice_get lines.now at)))) }
+        IsTrue (is_some (next_at history.now.notes (slice_get logs.now at)))) }
 {
-    for (at, line) in lines.iter().enumerate() {
-        if is_ready(history, line) {
+    for (at, log) in logs.iter().enumerate() {
+        if is_ready(history, log) {
             return Some(at);
         }
     }
@@ -62,16 +63,16 @@ fn first_ready(history: &History, lines: &[Unplaced]) -> Option<usize>
 }
 
 /// Whether the next act of the list can be placed.
-fn is_ready(history: &History, line: &Unplaced) -> bool
-    ensures { result ≡ is_some (next_in history.now.notes line.now) }
+fn is_ready(history: &History, log: &Unplaced) -> bool
+    ensures { result ≡ is_some (next_in history.now.notes log.now) }
 {
-    match line.next() {
+    match log.next() {
         Some(act) => number_of(history, act.by).is_some(),
         None => false,
     }
 }
 
-/// The number of the act at this place of this node's line, 0 where none is meant, if it is placed already.
+/// The number of the act at this place of this node's log, 0 where none is meant, if it is placed already.
 fn number_of(history: &History, by: Option<(NodeId, u64)>) -> Option<u64>
     ensures { result ≡ number_of history.now.notes by }
 {
@@ -83,22 +84,22 @@ fn number_of(history: &History, by: Option<(NodeId, u64)>) -> Option<u64>
 }
 
 /// Places the next act of the list, which can be placed.
-fn place(history: &mut History, line: &mut Unplaced) -> Result<(), AllocError>
-    requires { IsTrue (is_some (next_in history.old.notes line.old)) }
+fn place(history: &mut History, log: &mut Unplaced) -> Result<(), AllocError>
+    requires { IsTrue (is_some (next_in history.old.notes log.old)) }
     ensures notes { OnOk result
-        (history.new.notes ≡ noted history.old.notes (next_in history.old.notes line.old)) }
-    ensures rest { OnOk result (line.new.acts ≡ drop 1 line.old.acts) }
-    ensures one { OnOk result (length line.old.acts ≡ 1 + length line.new.acts) }
-    ensures node { line.new.node ≡ line.old.node }
-    ensures unplaced { OnErr result (line.new ≡ line.old) }
+        (history.new.notes ≡ noted history.old.notes (next_in history.old.notes log.old)) }
+    ensures rest { OnOk result (log.new.acts ≡ drop 1 log.old.acts) }
+    ensures one { OnOk result (length log.old.acts ≡ 1 + length log.new.acts) }
+    ensures node { log.new.node ≡ log.old.node }
+    ensures unplaced { OnErr result (log.new ≡ log.old) }
 {
-    let node = line.node();
+    let node = log.node();
     history.make_room(node)?;
-    let by = match line.next() {
+    let by = match log.next() {
         Some(act) => number_of(history, act.by),
         None => None,
     };
-    if let (Some(by), Some(act)) = (by, line.take()) {
+    if let (Some(by), Some(act)) = (by, log.take()) {
         history.add(Note::Act(Act {
             node,
             by,

@@ -1,11 +1,12 @@
 //! The nodes of a scene with so many shards and a worker for each script.
+//! Cited by judging.rt, leads.rt, logs.rt.
 
 ghost use Rattle.std.specs.Prelude.{◌≡◌, ◌++◌, IfOk, map};
 ghost use Rattle.std.specs.List.{range_with_len};
 ghost use Rattle.std.specs.Option.{option_copied};
 ghost use Rattle.kt_tuple.specs.declared.node.NodeId.TheVariants as ids;
-ghost use Rattle.kt_world.specs.Cast.{Cast, is_node, script_in};
-ghost use Rattle.kt_resume.specs.Found.{cast_of};
+ghost use Rattle.kt_scenario.specs.Scene.{SceneModel, is_node, script_in};
+ghost use Rattle.kt_resume.specs.Found.{scene_of};
 
 use kt_script::Script;
 use kt_tuple::NodeId;
@@ -28,7 +29,7 @@ pub(crate) fn nodes_of(alloc: Global, shards: u8, workers: u8) -> Result<Vec<Nod
 
 /// The script of the node, where it is a worker of the scene.
 pub(crate) fn script_of(scripts: &[Script], node: NodeId) -> Option<&Script>
-    ensures { (cast : Cast) → cast.scripts ≡ scripts.now → option_copied result ≡ script_in cast node }
+    ensures { (scene : SceneModel) → scene.scripts ≡ scripts.now → option_copied result ≡ script_in scene node }
 {
     match node {
         NodeId::Worker(0) | NodeId::Shard(_) => None,
@@ -38,7 +39,7 @@ pub(crate) fn script_of(scripts: &[Script], node: NodeId) -> Option<&Script>
 
 /// Whether the node is in the scene.
 pub(crate) fn is_in_scene(shards: u8, scripts: &[Script], node: NodeId) -> bool
-    ensures { result ≡ is_node (cast_of shards scripts.now) node }
+    ensures { result ≡ is_node (scene_of shards scripts.now) node }
 {
     match node {
         NodeId::Worker(_) => script_of(scripts, node).is_some(),

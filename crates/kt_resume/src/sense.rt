@@ -1,26 +1,27 @@
 //! Whether what nodes did makes sense where it is placed.
+//! Cited by judging.rt.
 
 ghost use Rattle.std.specs.Prelude.{◌≡◌, ◌↔◌, IsTrue};
-ghost use Rattle.kt_history.specs.Closed.{acts_in_line};
+ghost use Rattle.kt_history.specs.Closed.{acts_in_log};
 ghost use Rattle.kt_history.specs.WellFormed.{CausesComeFirst, HeardReply, HeardRequest, IsAnswering, IsAsking};
 ghost use Rattle.kt_history.specs.WellFormed.{IsShard, SameRequest};
-ghost use Rattle.kt_lines.specs.Legal.{IsLine};
-ghost use Rattle.kt_lines.specs.Order.{Setting};
-ghost use Rattle.kt_world.specs.Resumed.{MakesSense};
-ghost use Rattle.kt_resume.specs.inner.Sense.{CauseFits};
+ghost use Rattle.kt_logs.specs.Legal.{IsLog};
+ghost use Rattle.kt_logs.specs.Order.{Setting};
+ghost use Rattle.kt_model.specs.Resumed.{MakesSense};
+ghost use Rattle.kt_resume.specs.auxiliary.Sense.{CauseFits};
 
 use kt_history::{Act, History, What};
 use kt_tuple::{Answer, NodeId};
 
-/// Whether each act of the node's line makes sense where it is placed: what it heard was sent by its cause. That what a
-/// shard answers again was served so before need not be asked where its line is one that it may make.
+/// Whether each act of the node's log makes sense where it is placed: what it heard was sent by its cause. That what a
+/// shard answers again was served so before need not be asked where its log is one that it may make.
 pub(crate) fn makes_sense(history: &History, node: NodeId) -> bool
     ensures { (setting : Setting) → CausesComeFirst history.now.notes
-        → IsLine setting node (acts_in_line history.now.notes node)
+        → IsLog setting node (acts_in_log history.now.notes node)
         → (IsTrue result ↔ MakesSense history.now.notes node) }
 {
     for number in history.line(node) {
-        // Each number of a line is of an act.
+        // Each number of a log is of an act.
         if let Some(act) = history.act(*number) {
             if !has_cause(history, act) {
                 return false;

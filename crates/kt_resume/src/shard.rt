@@ -1,23 +1,24 @@
-//! A shard is made again by the acts of its line.
+//! A shard is made again by the acts of its log.
+//! Cited by leads.rt, suits.rt.
 
 ghost use Rattle.std.specs.Prelude.{◌≡◌, ◌↔◌, ◌≤◌, ◌<◌, All, IfOk, IfSome, IsTrue, Some, None, length, replicate};
-ghost use Rattle.kt_history.specs.Closed.{acts_in_line};
-ghost use Rattle.kt_shard.specs.Limits.{desks};
+ghost use Rattle.kt_history.specs.Closed.{acts_in_log};
+ghost use Rattle.kt_shard.specs.Limits.{sessions};
 ghost use Rattle.kt_tuple.specs.declared.node.NodeId.TheVariants as ids;
-ghost use Rattle.kt_lines.specs.ShardLine.{Ignores, MadeShard, ShardLine, ShardMakes, new_shard, request_of};
-ghost use Rattle.kt_lines.specs.ShardLine.{shard_after, shard_of_acts};
+ghost use Rattle.kt_logs.specs.ShardLog.{Ignores, MadeShard, ShardLog, ShardMakes, new_shard, request_of};
+ghost use Rattle.kt_logs.specs.ShardLog.{shard_after, shard_of_acts};
 ghost use Rattle.kt_resume.specs.Remade.{IsRemade, empty_slot};
 
 use crate::slot::Slot;
 use crate::space::answer;
 use kt_history::{Act, History, What};
-use kt_shard::DESKS;
+use kt_shard::SESSIONS;
 use kt_space::Bag;
 use kt_tuple::NodeId;
 use std::alloc::{AllocError, Global};
 use std::marker::Model;
 
-/// A shard that made the acts of its line again: its tuples, and what it knows of each worker.
+/// A shard that made the acts of its log again: its tuples, and what it knows of each worker.
 #[derive(Debug, Drop)]
 pub struct Remade {
     bag: Bag,
@@ -27,17 +28,17 @@ pub struct Remade {
 
 impl Model for Remade {
     ghost use Rattle.std.specs.Prelude.{◌≡◌, length};
-    ghost use Rattle.kt_shard.specs.Limits.{desks};
+    ghost use Rattle.kt_shard.specs.Limits.{sessions};
     ghost use Rattle.kt_resume.specs.Remade.{RemadeShard};
 
     ghost Value = { RemadeShard };
 
     ghost view = { λ r. record { bag = r.bag.tuples; slots = r.slots.items } };
 
-    ghost invariant = { λ r. length r.slots.items ≡ desks };
+    ghost invariant = { λ r. length r.slots.items ≡ sessions };
 }
 
-/// What the shard of this number, of so many shards, made of itself by the acts of its line, one after the other from
+/// What the shard of this number, of so many shards, made of itself by the acts of its log, one after the other from
 /// an empty bag; none where it may not make one of them.
 pub fn remake_shard(
     alloc: Global,
@@ -46,18 +47,18 @@ pub fn remake_shard(
     history: &History,
 ) -> Result<Option<Remade>, AllocError>
     requires { 1 ≤ shards }
-    ensures made { IfOk result (λ r. IfSome r (λ r. ShardLine shards name new_shard
-        (acts_in_line history.now.notes (ids.Shard name)))) }
+    ensures made { IfOk result (λ r. IfSome r (λ r. ShardLog shards name new_shard
+        (acts_in_log history.now.notes (ids.Shard name)))) }
     ensures like { IfOk result (λ r. IfSome r (λ r. IsRemade
-        (shard_of_acts new_shard (acts_in_line history.now.notes (ids.Shard name))) r)) }
+        (shard_of_acts new_shard (acts_in_log history.now.notes (ids.Shard name))) r)) }
     // Each act is about a worker that there may be, as those of a checkpoint are.
     ensures none { IfOk result (λ r. r ≡ None
-        → All (λ a. a.worker < desks) (acts_in_line history.now.notes (ids.Shard name))
-        → ¬ ShardLine shards name new_shard (acts_in_line history.now.notes (ids.Shard name))) }
+        → All (λ a. a.worker < sessions) (acts_in_log history.now.notes (ids.Shard name))
+        → ¬ ShardLog shards name new_shard (acts_in_log history.now.notes (ids.Shard name))) }
 {
     let mut remade = Remade::new(alloc)?;
     for number in history.line(NodeId::Shard(name)) {
-        // Each number of a line is of an act.
+        // Each number of a log is of an act.
         if let Some(act) = history.act(*number) {
             if !remade.makes(alloc, shards, name, act)? {
                 return Ok(None);
@@ -83,12 +84,12 @@ impl Remade {
         requires { 1 ≤ shards }
         ensures may { (made : MadeShard) → IsRemade made self.old
             → IfOk result (λ makes. IsTrue makes → ShardMakes shards name made act.now) }
-        ensures all { (made : MadeShard) → IsRemade made self.old → act.now.worker < desks
+        ensures all { (made : MadeShard) → IsRemade made self.old → act.now.worker < sessions
             → ShardMakes shards name made act.now → IfOk result (λ makes. IsTrue makes) }
         ensures after { (made : MadeShard) → IsRemade made self.old
             → IfOk result (λ makes. IsTrue makes → IsRemade (shard_after made act.now) self.new) }
     {
-        if act.op.signature().shard_of(shards) != name || DESKS <= act.worker {
+        if act.op.signature().shard_of(shards) != name || SESSIONS <= act.worker {
             return Ok(false);
         }
         let worker = usize::from(act.worker);
@@ -109,9 +110,9 @@ impl Remade {
 
     /// Whether the request of the act is neither new nor to be answered again.
     fn ignores(&self, act: &Act) -> bool
-        requires { act.now.worker < desks }
+        requires { act.now.worker < sessions }
         ensures { (made : MadeShard) → IsRemade made self.now
-            → IsTrue result ↔ Ignores (request_of act.now) (made.desk act.now.worker) }
+            → IsTrue result ↔ Ignores (request_of act.now) (made.session act.now.worker) }
     {
         self.slots[usize::from(act.worker)].ignores(act)
     }
@@ -119,7 +120,7 @@ impl Remade {
     /// What it knows of each worker, by the worker's number from 0.
     pub(crate) fn slots(&self) -> &[Slot]
         ensures slots { result.now ≡ self.now.slots }
-        ensures long { length result.now ≡ desks }
+        ensures long { length result.now ≡ sessions }
     {
         &self.slots
     }
@@ -134,10 +135,10 @@ impl Remade {
 
 /// A slot for each number that a worker can have, and for 0.
 fn empty_slots(alloc: Global) -> Result<Vec<Slot>, AllocError>
-    ensures { IfOk result (λ made. made.items ≡ replicate desks empty_slot) }
+    ensures { IfOk result (λ made. made.items ≡ replicate sessions empty_slot) }
 {
-    let mut slots = Vec::with_capacity(alloc, usize::from(DESKS))?;
-    for number in 0..DESKS {
+    let mut slots = Vec::with_capacity(alloc, usize::from(SESSIONS))?;
+    for number in 0..SESSIONS {
         slots.push(Slot::new())?;
     }
     Ok(slots)

@@ -1,15 +1,16 @@
 //! What a shard knows of one worker.
+//! Cited by entries.rt, shard.rt, suits.rt.
 
 ghost use Rattle.std.specs.Prelude.{◌≡◌, ◌↔◌, IfOk, IsTrue, Some};
 ghost use Rattle.std.specs.Option.{option_copied};
 ghost use Rattle.kt_history.specs.declared.note.What.TheVariants as whats;
-ghost use Rattle.kt_lines.specs.ShardLine.{AnswersAgain, Hears, Ignores, request_of};
-ghost use Rattle.kt_shard.specs.Desk.{empty_desk, kept_answer, newest, same_request};
+ghost use Rattle.kt_logs.specs.ShardLog.{AnswersAgain, Hears, Ignores, request_of};
+ghost use Rattle.kt_shard.specs.Session.{empty_session, cached_answer, newest, same_request};
 ghost use Rattle.kt_resume.specs.Remade.{empty_slot};
-ghost use Rattle.kt_resume.specs.inner.Slots.{slot_after};
+ghost use Rattle.kt_resume.specs.auxiliary.Slots.{slot_after};
 
 use kt_history::Act;
-use kt_shard::{Desk, Kept, Request};
+use kt_shard::{CachedReply, Request, Session};
 use kt_tuple::Answer;
 use std::alloc::{AllocError, Global};
 use std::marker::Model;
@@ -18,7 +19,7 @@ use std::marker::Model;
 #[derive(Debug, Drop)]
 pub(crate) struct Slot {
     /// What it remembers of the worker.
-    desk: Desk,
+    session: Session,
     /// The cause of the last hearing of the worker, 0 before the first. A service is caused by what caused that.
     cause: u64,
 }
@@ -28,7 +29,7 @@ impl Model for Slot {
 
     ghost Value = { Known };
 
-    ghost view = { λ s. record { desk = s.desk; cause = s.cause } };
+    ghost view = { λ s. record { session = s.session; cause = s.cause } };
 }
 
 impl Slot {
@@ -37,31 +38,31 @@ impl Slot {
         ensures { result ≡ empty_slot }
     {
         Slot {
-            desk: Desk {
+            session: Session {
                 waiting: None,
-                kept: None,
+                cached: None,
             },
             cause: 0,
         }
     }
 
     /// What is remembered of the worker.
-    pub(crate) fn desk(&self) -> &Desk
-        ensures { result.now ≡ self.now.desk }
+    pub(crate) fn session(&self) -> &Session
+        ensures { result.now ≡ self.now.session }
     {
-        &self.desk
+        &self.session
     }
 
     /// Whether nothing is remembered of the worker.
     pub(crate) fn is_empty(&self) -> bool
-        ensures { IsTrue result ↔ (self.now.desk ≡ empty_desk) }
+        ensures { IsTrue result ↔ (self.now.session ≡ empty_session) }
     {
-        self.desk.waiting.is_none() && self.desk.kept.is_none()
+        self.session.waiting.is_none() && self.session.cached.is_none()
     }
 
     /// Hears the request of the act, if its number is new, and says whether it is.
     pub(crate) fn hear(&mut self, alloc: Global, act: &Act) -> Result<bool, AllocError>
-        ensures may { IfOk result (λ may. IsTrue may ↔ Hears act.now.number self.old.desk) }
+        ensures may { IfOk result (λ may. IsTrue may ↔ Hears act.now.number self.old.session) }
         ensures after { IfOk result (λ may. IsTrue may
             → self.new ≡ slot_after self.old act.now whats.Heard) }
     {
@@ -69,7 +70,7 @@ impl Slot {
             return Ok(false);
         }
         let op = act.op.copy(alloc)?;
-        self.desk.waiting = Some(Request {
+        self.session.waiting = Some(Request {
             number: act.number,
             op,
         });
@@ -86,7 +87,7 @@ impl Slot {
         answer: &Answer,
     ) -> Result<bool, AllocError>
         ensures may { IfOk result (λ may. IsTrue may
-            ↔ ((self.old.desk.waiting ≡ Some (request_of act.now)) × (act.now.by ≡ self.old.cause))) }
+            ↔ ((self.old.session.waiting ≡ Some (request_of act.now)) × (act.now.by ≡ self.old.cause))) }
         ensures after { IfOk result (λ may. IsTrue may
             → self.new ≡ slot_after self.old act.now (whats.Served answer.now)) }
     {
@@ -99,61 +100,61 @@ impl Slot {
             number: act.number,
             op,
         };
-        self.desk.waiting = None;
-        self.desk.kept = Some(Kept { request, answer });
+        self.session.waiting = None;
+        self.session.cached = Some(CachedReply { request, answer });
         Ok(true)
     }
 
     /// Whether this answer to the request of the act is kept, and the worker does not wait.
     pub(crate) fn answers_again(&self, act: &Act, answer: &Answer) -> bool
-        ensures { IsTrue result ↔ AnswersAgain (request_of act.now) answer.now self.now.desk }
+        ensures { IsTrue result ↔ AnswersAgain (request_of act.now) answer.now self.now.session }
     {
-        match self.kept_answer(act) {
-            Some(kept) => kept == answer,
+        match self.cached_answer(act) {
+            Some(cached) => cached == answer,
             None => false,
         }
     }
 
     /// Whether the request of the act is neither new nor to be answered again.
     pub(crate) fn ignores(&self, act: &Act) -> bool
-        ensures { IsTrue result ↔ Ignores (request_of act.now) self.now.desk }
+        ensures { IsTrue result ↔ Ignores (request_of act.now) self.now.session }
     {
-        act.number <= self.newest() && self.kept_answer(act).is_none()
+        act.number <= self.newest() && self.cached_answer(act).is_none()
     }
 
     /// The greatest number that was heard of the worker, or 0.
     fn newest(&self) -> u64
-        ensures { result ≡ newest self.now.desk }
+        ensures { result ≡ newest self.now.session }
     {
-        let waiting = match &self.desk.waiting {
+        let waiting = match &self.session.waiting {
             Some(request) => request.number,
             None => 0,
         };
-        let kept = match &self.desk.kept {
-            Some(kept) => kept.request.number,
+        let cached = match &self.session.cached {
+            Some(cached) => cached.request.number,
             None => 0,
         };
-        waiting.max(kept)
+        waiting.max(cached)
     }
 
     /// Whether the worker waits with the request of the act.
     fn waits_with(&self, act: &Act) -> bool
-        ensures { IsTrue result ↔ (self.now.desk.waiting ≡ Some (request_of act.now)) }
+        ensures { IsTrue result ↔ (self.now.session.waiting ≡ Some (request_of act.now)) }
     {
-        match &self.desk.waiting {
+        match &self.session.waiting {
             Some(request) => is_of(request, act),
             None => false,
         }
     }
 
     /// What was answered to the request of the act, where it is the one kept and the worker does not wait.
-    fn kept_answer(&self, act: &Act) -> Option<&Answer>
-        ensures { option_copied result ≡ kept_answer self.now.desk (request_of act.now) }
+    fn cached_answer(&self, act: &Act) -> Option<&Answer>
+        ensures { option_copied result ≡ cached_answer self.now.session (request_of act.now) }
     {
-        match (&self.desk.waiting, &self.desk.kept) {
-            (None, Some(kept)) => {
-                if is_of(&kept.request, act) {
-                    Some(&kept.answer)
+        match (&self.session.waiting, &self.session.cached) {
+            (None, Some(cached)) => {
+                if is_of(&cached.request, act) {
+                    Some(&cached.answer)
                 } else {
                     None
                 }

@@ -1,4 +1,5 @@
 //! The tuples of a shard that is made again answer as they did.
+//! Cited by shard.rt, suits.rt.
 
 ghost use Rattle.std.specs.Prelude.{◌≡◌, ◌↔◌, ◌∷◌, IfOk, IsTrue, List, Contains, IsPermutation};
 ghost use Rattle.kt_tuple.specs.declared.tuple.Tuple.{Tuple};

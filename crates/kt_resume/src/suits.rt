@@ -1,18 +1,19 @@
-//! Whether a checkpoint has of its node what the acts of its line made again.
+//! Whether a checkpoint has of its node what the acts of its log made again.
+//! Cited by leads.rt.
 
 ghost use Rattle.std.specs.Prelude.{◌≡◌, ◌≤◌, ◌↔◌, ℕ, List, Option, IsPermutation, IsTrue, IfOk, length};
 ghost use Rattle.std.specs.Option.{option_copied};
 ghost use Rattle.kt_script.specs.declared.command.Command.{Command};
-ghost use Rattle.kt_lines.specs.ShardLine.{MadeShard};
-ghost use Rattle.kt_lines.specs.WorkerLine.{MadeWorker};
-ghost use Rattle.kt_node.specs.State.{worker_fields};
-ghost use Rattle.kt_shard.specs.Desk.{empty_desk};
-ghost use Rattle.kt_shard.specs.Limits.{desks};
+ghost use Rattle.kt_logs.specs.ShardLog.{MadeShard};
+ghost use Rattle.kt_logs.specs.WorkerLog.{MadeWorker};
+ghost use Rattle.kt_state.specs.State.{worker_fields};
+ghost use Rattle.kt_shard.specs.Session.{empty_session};
+ghost use Rattle.kt_shard.specs.Limits.{sessions};
 ghost use Rattle.kt_shard.specs.Table.{at};
-ghost use Rattle.kt_world.specs.Like.{IsWorkerLike};
+ghost use Rattle.kt_model.specs.Like.{IsWorkerLike};
 ghost use Rattle.kt_resume.specs.Remade.{IsRemade, empty_slot};
 ghost use Rattle.kt_resume.specs.Suits.{SuitsShard, SuitsWorker};
-ghost use Rattle.kt_resume.specs.inner.Suits.{HasDesks};
+ghost use Rattle.kt_resume.specs.auxiliary.Suits.{HasSessions};
 
 use crate::entries::has_entries;
 use crate::shard::Remade;
@@ -31,10 +32,10 @@ pub fn suits_worker(stored: &WorkerState, worker: &Worker) -> bool
     ensures like { (script : List Command) (made : MadeWorker) → IsWorkerLike script made worker.now
         → IsTrue result ↔ SuitsWorker script made stored.now }
 {
-    has_standing(stored, worker)
+    is_stored_as(stored, worker)
 }
 
-fn has_standing(stored: &WorkerState, worker: &Worker) -> bool
+fn is_stored_as(stored: &WorkerState, worker: &Worker) -> bool
     ensures { IsTrue result ↔ (stored.now ≡ worker_fields worker.now) }
 {
     if usize::from(stored.pc()) != worker.pc() {
@@ -64,7 +65,7 @@ fn are_same(one: Option<&Op>, other: Option<&Op>) -> bool
 }
 
 /// Whether a checkpoint has of its shard what was made again, in a scene of so many workers: the tuples in any order,
-/// just these desks, and nothing on the desks of workers that the scene has not.
+/// just these sessions, and nothing in the sessions of workers that the scene has not.
 pub fn suits_shard(
     alloc: Global,
     workers: u8,
@@ -74,30 +75,30 @@ pub fn suits_shard(
     ensures { (scripts : List (List Command)) (made : MadeShard) → length scripts ≡ workers → IsRemade made remade
         → IfOk result (λ suits. IsTrue suits ↔ SuitsShard scripts made stored.now) }
 {
-    if !has_desks(workers, stored, remade.slots()) {
+    if !has_sessions(workers, stored, remade.slots()) {
         return Ok(false);
     }
     has_just(alloc, remade.into_bag(), stored.bag())
 }
 
-/// Whether the checkpoint has what is on the desks, and nothing is on those of workers that the scene has not.
-fn has_desks(workers: u8, stored: &ShardState, slots: &[Slot]) -> bool
-    requires { length slots.now ≡ desks }
-    ensures { IsTrue result ↔ HasDesks workers slots.now stored.now }
+/// Whether the checkpoint has what is in the sessions, and nothing is on those of workers that the scene has not.
+fn has_sessions(workers: u8, stored: &ShardState, slots: &[Slot]) -> bool
+    requires { length slots.now ≡ sessions }
+    ensures { IsTrue result ↔ HasSessions workers slots.now stored.now }
 {
     if !has_entries(stored.waiting(), slots) {
         return false;
     }
-    if !has_entries(stored.kept(), slots) {
+    if !has_entries(stored.cached(), slots) {
         return false;
     }
     are_empty_outside(workers, slots)
 }
 
-/// Whether nothing is on the desk of number 0 and on those of numbers above this one.
+/// Whether nothing is in the session of number 0 and on those of numbers above this one.
 fn are_empty_outside(workers: u8, slots: &[Slot]) -> bool
     ensures { IsTrue result ↔ ((number : ℕ) → ¬ ((1 ≤ number) × (number ≤ workers))
-        → (at empty_slot slots.now number).desk ≡ empty_desk) }
+        → (at empty_slot slots.now number).session ≡ empty_session) }
 {
     for (number, slot) in slots.iter().enumerate() {
         if !is_allowed(workers, number, slot) {
@@ -107,9 +108,9 @@ fn are_empty_outside(workers: u8, slots: &[Slot]) -> bool
     true
 }
 
-/// Whether the worker of this number may have what is on its desk: one of the scene may have anything.
+/// Whether the worker of this number may have what is in its session: one of the scene may have anything.
 fn is_allowed(workers: u8, number: usize, slot: &Slot) -> bool
-    ensures { IsTrue result ↔ (¬ ((1 ≤ number) × (number ≤ workers)) → slot.now.desk ≡ empty_desk) }
+    ensures { IsTrue result ↔ (¬ ((1 ≤ number) × (number ≤ workers)) → slot.now.session ≡ empty_session) }
 {
     (1 <= number && number <= usize::from(workers)) || slot.is_empty()
 }

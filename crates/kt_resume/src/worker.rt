@@ -1,11 +1,12 @@
-//! A worker is made again by the acts of its line.
+//! A worker is made again by the acts of its log.
+//! Cited by leads.rt.
 
 ghost use Rattle.std.specs.Prelude.{◌≡◌, ◌↔◌, IfOk, IfSome, IsTrue, Some, None};
 ghost use Rattle.kt_script.specs.Asks.{asks};
-ghost use Rattle.kt_history.specs.Closed.{acts_in_line};
+ghost use Rattle.kt_history.specs.Closed.{acts_in_log};
 ghost use Rattle.kt_tuple.specs.declared.node.NodeId.TheVariants as ids;
-ghost use Rattle.kt_lines.specs.WorkerLine.{MadeWorker, WorkerLine, WorkerMakes, new_worker, worker_after, worker_of_acts};
-ghost use Rattle.kt_world.specs.Like.{IsWorkerLike};
+ghost use Rattle.kt_logs.specs.WorkerLog.{MadeWorker, WorkerLog, WorkerMakes, new_worker, worker_after, worker_of_acts};
+ghost use Rattle.kt_model.specs.Like.{IsWorkerLike};
 
 use kt_history::{Act, History, What};
 use kt_script::Script;
@@ -13,7 +14,7 @@ use kt_tuple::{NodeId, Op};
 use kt_worker::Worker;
 use std::alloc::{AllocError, Global};
 
-/// The worker of this name and script that made the acts of its line, one after the other from its first state; none
+/// The worker of this name and script that made the acts of its log, one after the other from its first state; none
 /// where it may not make one of them.
 pub fn remake_worker(
     alloc: Global,
@@ -21,16 +22,16 @@ pub fn remake_worker(
     name: u8,
     history: &History,
 ) -> Result<Option<Worker>, AllocError>
-    ensures made { IfOk result (λ w. IfSome w (λ w. WorkerLine (asks script.now) name new_worker
-        (acts_in_line history.now.notes (ids.Worker name)))) }
+    ensures made { IfOk result (λ w. IfSome w (λ w. WorkerLog (asks script.now) name new_worker
+        (acts_in_log history.now.notes (ids.Worker name)))) }
     ensures like { IfOk result (λ w. IfSome w (λ w. IsWorkerLike script.now
-        (worker_of_acts new_worker (acts_in_line history.now.notes (ids.Worker name))) w)) }
-    ensures none { IfOk result (λ w. w ≡ None → ¬ WorkerLine (asks script.now) name new_worker
-        (acts_in_line history.now.notes (ids.Worker name))) }
+        (worker_of_acts new_worker (acts_in_log history.now.notes (ids.Worker name))) w)) }
+    ensures none { IfOk result (λ w. w ≡ None → ¬ WorkerLog (asks script.now) name new_worker
+        (acts_in_log history.now.notes (ids.Worker name))) }
 {
     let mut worker = Worker::new(alloc, script)?;
     for number in history.line(NodeId::Worker(name)) {
-        // Each number of a line is of an act.
+        // Each number of a log is of an act.
         if let Some(act) = history.act(*number) {
             if !makes(alloc, script, name, &mut worker, act)? {
                 return Ok(None);

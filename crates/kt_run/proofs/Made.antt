@@ -1,10 +1,11 @@
 -- Steps that are made one after the other, told in two ways.
+-- Cited by Outcomes, Replayed.
 use Rattle.std.proofs.Common.{◌≡◌, List, [], ◌∷◌, Result, Ok, Err, refl, sym, subst, ◌∙◌, ap}
-use Rattle.kt_world.specs.declared.step.Step.{Step}
-use Rattle.kt_world.specs.declared.step.StepError.{StepError}
-use Rattle.kt_world.specs.Effect.{step_result}
-use Rattle.kt_world.specs.State.{State}
-use Rattle.kt_world.proofs.Shared.{step-made}
+use Rattle.kt_scenario.specs.declared.step.Step.{Step}
+use Rattle.kt_model.specs.declared.error.StepError.{StepError}
+use Rattle.kt_model.specs.Effect.{step_result}
+use Rattle.kt_model.specs.State.{State}
+use Rattle.kt_model.proofs.Shared.{step-made}
 use Rattle.kt_stage.specs.Journal.{made_from, all_made}
 use Rattle.kt_scene.specs.Runs.{RunsTo}
 
@@ -33,12 +34,12 @@ all_made_runs s steps t e =
     subst (λ (x : State). RunsTo x steps t) same h.2
 
 -- who takes part stays
-pub runs_cast : (steps : List Step) (s t : State) → RunsTo s steps t → t.cast ≡ s.cast
-runs_cast [] s t h = ap (λ (x : State). x.cast) h
-runs_cast (step ∷ later) s t h =
+pub runs_scene : (steps : List Step) (s t : State) → RunsTo s steps t → t.scene ≡ s.scene
+runs_scene [] s t h = ap (λ (x : State). x.scene) h
+runs_scene (step ∷ later) s t h =
     let made = step-made s step h.0 h.1 in
-    let here : h.0.cast ≡ s.cast = sym (ap (λ (x : State). x.cast) made.leads) in
-    runs_cast later h.0 t h.2 ∙ here
+    let here : h.0.scene ≡ s.scene = sym (ap (λ (x : State). x.scene) made.leads) in
+    runs_scene later h.0 t h.2 ∙ here
 
 -- steps lead to one state
 pub runs_once : (steps : List Step) (s t u : State) → RunsTo s steps t → RunsTo s steps u → t ≡ u

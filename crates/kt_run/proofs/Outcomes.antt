@@ -1,22 +1,23 @@
 -- What a run came to, and what is written of it.
+-- Cited by `running::run_read`, `running::run_text_returning_store`, `running::run_told`.
 use Rattle.std.proofs.Common.{◌≡◌, ℕ, Bool, true, List, Some, None, Result, Ok, Err, sym, ap, subst, ◌∙◌}
 use Rattle.std.specs.Prelude.{IfErr, IfOk, OnOk, IsTrue}
 use Rattle.kt_core.specs.Store.{AreLater, StoreValue}
-use Rattle.kt_core.specs.World.{Standing}
-use Rattle.kt_core.specs.declared.faults.FaultLine.{FaultLine}
-use Rattle.kt_world.specs.declared.step.Step.{Step}
-use Rattle.kt_world.specs.Cast.{Cast}
-use Rattle.kt_world.specs.State.{State}
+use Rattle.kt_core.specs.World.{WorldModel}
+use Rattle.kt_scenario.specs.declared.faults.FaultLine.{FaultLine}
+use Rattle.kt_scenario.specs.declared.step.Step.{Step}
+use Rattle.kt_scenario.specs.Scene.{SceneModel}
+use Rattle.kt_model.specs.State.{State}
 use Rattle.kt_scene.specs.declared.fault.ReplayFault.{ReplayFault}
 use Rattle.kt_scene.specs.declared.fault.ReplayFault.TheVariants as faults
 use Rattle.kt_scene.specs.Outside.{Reader, Writer}
-use Rattle.kt_scene.specs.Reading.{Play}
+use Rattle.kt_text.specs.Reading.{ScenarioModel}
 use Rattle.kt_store.specs.Content.{Content}
 use Rattle.kt_core.specs.declared.start.Start.{Start}
 use Rattle.kt_scene.specs.Runs.{BeginsAndRunsTo}
-use Rattle.kt_scene.specs.Scenario.{IsScenario}
+use Rattle.kt_text.specs.Scenario.{IsScenario}
 use Rattle.kt_scene.specs.Stream.{IsAllRead, IsReadFault, IsReportFault}
-use Rattle.kt_scene.specs.Work.{Work, Steps, Faults, lines_of_faults}
+use Rattle.kt_text.specs.Work.{Work, Steps, Faults, lines_of_faults}
 use Rattle.kt_stage.specs.declared.running.RunFault.{RunFault}
 use Rattle.kt_stage.specs.Policy.{first_unfinished, spent_by}
 use Rattle.kt_stage.specs.Running.{IsStopped, Leads}
@@ -34,31 +35,33 @@ work_is (Faults given) lines e =
     ap (λ (l : List FaultLine). Faults l) same
 
 -- steps that lead from the start of a world begin there and run on
-leads_runs : (start : Start) (c : Content) (cast : Cast) (steps : List Step) (s : State) → Leads start c cast steps s → BeginsAndRunsTo start c cast steps s
-leads_runs start c cast steps s l = record { first = l.first; begins = l.begins; runs = all_made_runs l.first steps s l.made }
+leads_runs : (start : Start) (c : Content) (scene : SceneModel) (steps : List Step) (s : State) → Leads start c scene steps s
+    → BeginsAndRunsTo start c scene steps s
+leads_runs start c scene steps s l = record { first = l.first; begins = l.begins; runs = all_made_runs l.first steps s l.made }
 
 -- the run of a scenario that was read
-pub run_of : (start : Start) (text : List ℕ) (is_honest : Bool) (c : Content) (steps : List Step) (s : State) (play : Play) (lines : List FaultLine)
-    → IsScenario text play
-    → lines_of_faults play.work ≡ Some lines → (IsTrue is_honest → Leads start c play.cast steps s)
+pub run_of : (start : Start) (text : List ℕ) (is_honest : Bool) (c : Content) (steps : List Step) (s : State) (model : ScenarioModel) (lines : List FaultLine)
+    → IsScenario text model
+    → lines_of_faults model.work ≡ Some lines → (IsTrue is_honest → Leads start c model.scene steps s)
     → (IsTrue is_honest → first_unfinished s (spent_by lines steps) ≡ None)
     → IsRunOf start text is_honest c steps s
-run_of start text is_honest c steps s play lines scenario are made ended = record {
-  play = play;
+run_of start text is_honest c steps s model lines scenario are made ended = record {
+  model = model;
   lines = lines;
-  trial = record { scenario = scenario; faults = work_is play.work lines are };
-  runs = λ honest. leads_runs start c play.cast steps s (made honest);
+  trial = record { scenario = scenario; faults = work_is model.work lines are };
+  runs = λ honest. leads_runs start c model.scene steps s (made honest);
   ended = ended;
 }
 
 -- why the run of a scenario that was read did not come to its end
-pub stopped_of : (start : Start) (was left : StoreValue) (text : List ℕ) (play : Play) (lines : List FaultLine) (fault : RunFault) → IsScenario text play
-    → lines_of_faults play.work ≡ Some lines → IsStopped start was left play.cast lines fault
+pub stopped_of : (start : Start) (was left : StoreValue) (text : List ℕ) (model : ScenarioModel) (lines : List FaultLine) (fault : RunFault)
+    → IsScenario text model
+    → lines_of_faults model.work ≡ Some lines → IsStopped start was left model.scene lines fault
     → IsTextFault start was left text (Run fault)
-stopped_of start was left text play lines fault scenario are why = record {
-  play = play;
+stopped_of start was left text model lines fault scenario are why = record {
+  model = model;
   lines = lines;
-  trial = record { scenario = scenario; faults = work_is play.work lines are };
+  trial = record { scenario = scenario; faults = work_is model.work lines are };
   why = why;
 }
 
@@ -73,16 +76,17 @@ told_over start value was before after text held (Err e) read same f =
     of_text text read (subst P same f)
 
 -- a run of the text that was read is one of what was read
-pub run_over : {X S : Type 0} (start : Start) (before after : Reader) (text held : List ℕ) (is_honest : X → Bool) (content : Content) (steps : X → List Step)
+pub run_returning_store : {X S : Type 0} (start : Start) (before after : Reader) (text held : List ℕ) (is_honest : X → Bool) (content : Content)
+    (steps : X → List Step)
     (state : X → State) (r : Result X S) → IsAllRead before after text → held ≡ text
     → IfOk r (λ j. IsRunOf start held (is_honest j) content (steps j) (state j))
     → IfOk r (λ j. IsRun start before after (is_honest j) content (steps j) (state j))
-run_over start before after text held is_honest content steps state (Ok j) read same h = record {
+run_returning_store start before after text held is_honest content steps state (Ok j) read same h = record {
   text = text;
   read = read;
   run = subst (λ (t : List ℕ). IsRunOf start t (is_honest j) content (steps j) (state j)) same h;
 }
-run_over start before after text held is_honest content steps state (Err e) read same h = tt
+run_returning_store start before after text held is_honest content steps state (Err e) read same h = tt
 
 -- a store that is honest when it is left was so when the run ended
 run_left : (start : Start) (before after : Reader) (ended left : Bool) (content : Content) (steps : List Step) (s : State) → (IsTrue left → IsTrue ended)
@@ -91,7 +95,7 @@ run_left start before after ended left content steps s honest h = record {
   text = h.text;
   read = h.read;
   run = record {
-    play = h.run.play;
+    model = h.run.model;
     lines = h.run.lines;
     trial = h.run.trial;
     runs = λ now. h.run.runs (honest now);
@@ -100,7 +104,7 @@ run_left start before after ended left content steps s honest h = record {
 }
 
 -- what a run ended in: its world, and the store as it was left after the writing
-module _ (start : Start) (was left : StoreValue) (before after : Reader) (world : Standing) (steps : List Step)
+module _ (start : Start) (was left : StoreValue) (before after : Reader) (world : WorldModel) (steps : List Step)
     (run : IsRun start before after world.is_honest was.content steps world.state) (honest : IsTrue left.is_honest → IsTrue world.is_honest)
     (kept : IsTrue left.is_honest → left.content ≡ world.state.content) (later : AreLater was.counts world.counts) where
   ran : IsRun start before after left.is_honest was.content steps world.state

@@ -1,4 +1,5 @@
 -- Each step that is made can be said by a line: its nodes are of the scene, and its place is below the number of steps made.
+-- Cited by Replayed, `laws::what_was_made_can_be_said`.
 use Rattle.std.proofs.Common.{◌≡◌, ℕ, zero, suc, ◌<◌, ◌≤◌, Bool, true, false, cond, eqb, ltb, List, [], ◌∷◌, length, Option, Some, None, Result, Ok, Err, refl}
 use Rattle.std.proofs.Common.{ap, sym, ◌∙◌, subst, arith}
 use Rattle.std.proofs.lemmas.Bool.{eqb-true, ltb-true, and_parts}
@@ -20,41 +21,42 @@ use Rattle.kt_space.specs.Picking.{matching}
 use Rattle.kt_script.specs.declared.command.Command.{Command}
 use Rattle.kt_script.specs.Rules.{IsScript}
 use Rattle.kt_shard.specs.declared.request.Request.{Request}
-use Rattle.kt_shard.specs.Shard.{Shard, desk_of}
+use Rattle.kt_shard.specs.Shard.{Shard, session_of}
 use Rattle.kt_shard.specs.Service.{Service, got_or_none, answer_at, service_if, service_of, service}
-use Rattle.kt_node.specs.declared.live.Phase.{Phase}
-use Rattle.kt_node.specs.declared.live.Phase.TheVariants as phases
-use Rattle.kt_node.specs.declared.plan.Plan.{Plan}
-use Rattle.kt_node.specs.Node.{Body, IsWorker, IsShard, Live, Node, Down, Alive, shard_in, node_number}
-use Rattle.kt_node.specs.Plan.{Planned}
+use Rattle.kt_state.specs.declared.live.Phase.{Phase}
+use Rattle.kt_state.specs.declared.live.Phase.TheVariants as phases
+use Rattle.kt_state.specs.declared.plan.Plan.{Plan}
+use Rattle.kt_state.specs.Node.{Body, IsWorker, IsShard, Live, Node, Down, Alive, shard_in, node_number}
+use Rattle.kt_state.specs.Plan.{Planned}
 use Rattle.kt_node.specs.Steps.{up_in, up_of, by_up, serve_by, serve_found}
-use Rattle.kt_world.specs.declared.step.Step.{Step}
-use Rattle.kt_world.specs.declared.step.Step.TheVariants.{Issue, Repeat, Deliver, Take, Serve, Check, Decide, Abandon}
-use Rattle.kt_world.specs.declared.step.Step.TheVariants.{Learn, Fail, Restart}
-use Rattle.kt_world.specs.declared.step.StepError.{StepError}
-use Rattle.kt_world.specs.declared.step.StepError.TheVariants as refusals
-use Rattle.kt_world.specs.Cast.{Cast, IsCast, is_worker, is_shard, is_in_scene}
-use Rattle.kt_world.specs.Effect.{applied_if, step_result}
-use Rattle.kt_world.specs.Judge.{of_scene, due, has_room, judged, within_limit, planned}
-use Rattle.kt_world.specs.declared.step.TheConstants.{MAX_STEPS}
-use Rattle.kt_lines.specs.Cause.{cause_of_waiting}
-use Rattle.kt_world.specs.Reached.{opening}
-use Rattle.kt_world.specs.inner.Ready.{IsReady, IsBodyReady, IsLiveReady, IsNodeReady}
-use Rattle.kt_world.specs.Short.{IsShort, AreShort}
-use Rattle.kt_world.specs.State.{State, node, role_of, view}
-use Rattle.kt_world.specs.Told.{told}
-use Rattle.kt_world.proofs.Shared.{Holds, owner-passed, plan-few, step-made, made-holds, opening-holds, Ends, to_shard, to_worker, ends, worker-node, shard-node}
+use Rattle.kt_scenario.specs.declared.step.Step.{Step}
+use Rattle.kt_scenario.specs.declared.step.Step.TheVariants.{Issue, Repeat, Deliver, Take, Serve, Check, Decide, Abandon}
+use Rattle.kt_scenario.specs.declared.step.Step.TheVariants.{Learn, Fail, Restart}
+use Rattle.kt_model.specs.declared.error.StepError.{StepError}
+use Rattle.kt_model.specs.declared.error.StepError.TheVariants as refusals
+use Rattle.kt_scenario.specs.Scene.{SceneModel, IsScene, is_worker, is_shard, is_in_scene}
+use Rattle.kt_model.specs.Effect.{applied_if, step_result}
+use Rattle.kt_model.specs.StepPlan.{of_scene, owner_plan, has_room, unlimited_plan, within_limit, step_plan}
+use Rattle.kt_scenario.specs.declared.step.TheConstants.{MAX_STEPS}
+use Rattle.kt_logs.specs.Cause.{cause_of_waiting}
+use Rattle.kt_model.specs.Reached.{opening}
+use Rattle.kt_model.specs.auxiliary.Ready.{IsReady, IsBodyReady, IsLiveReady, IsNodeReady}
+use Rattle.kt_model.specs.Short.{IsShort, AreShort}
+use Rattle.kt_model.specs.State.{State, node, role_of, view}
+use Rattle.kt_model.specs.StoreReads.{store_reads}
+use Rattle.kt_model.proofs.Shared.{Holds, owner-passed, plan-few, step-made, made-holds, opening-holds, Ends, to_shard, to_worker, ends}
+use Rattle.kt_scenario.proofs.Shared.{worker-node, shard-node}
 use Rattle.kt_scene.specs.Runs.{RunsTo}
-use Rattle.kt_scene.specs.Scenario.{IsStepNode, IsStep}
-use Rattle.kt_scene.proofs.Shared.{node_said}
+use Rattle.kt_text.specs.Scenario.{IsStepNode, IsStep}
+use Rattle.kt_text.proofs.Shared.{node_said}
 use Rattle.kt_core.proofs.Shared.{of_script}
 
 -- ---- what is known of a step that is made
 
 record IsDue (s : State) (step : Step) : Type 0 where
-  there : is_in_scene s.cast step ≡ true
+  there : is_in_scene s.scene step ≡ true
   plan : Plan
-  is_due : due s (told s step) step ≡ Ok plan
+  is_due : owner_plan s (store_reads s step) step ≡ Ok plan
   few : s.made < MAX_STEPS
 
 scene_plans : (there : Bool) (r : Planned) (plan : Plan) → of_scene there r ≡ Ok plan → (there ≡ true) × (r ≡ Ok plan)
@@ -83,15 +85,15 @@ limit_plans : (r : Result Plan StepError) (room : Bool) (plan : Plan) → within
 limit_plans (Ok found) room plan e = (limit_by_test room (Ok found) plan e).1
 limit_plans (Err refusal) room plan e = absurd (never_planned refusal room plan e)
 
-due_by_plan : (r : Result Plan StepError) (s : State) (step : Step) (new : State) → planned s step ≡ r → applied_if s step r ≡ Ok new → IsDue s step
+due_by_plan : (r : Result Plan StepError) (s : State) (step : Step) (new : State) → step_plan s step ≡ r → applied_if s step r ≡ Ok new → IsDue s step
 due_by_plan (Err refusal) s step new is e = absurd cc
 due_by_plan (Ok plan) s step new is e =
-    let h = limit_plans (judged s (told s step) step) (has_room s) plan is in
-    let k = scene_plans (is_in_scene s.cast step) (due s (told s step) step) plan h in
-    record { there = k.0; plan = plan; is_due = k.1; few = plan-few s (told s step) step plan is }
+    let h = limit_plans (unlimited_plan s (store_reads s step) step) (has_room s) plan is in
+    let k = scene_plans (is_in_scene s.scene step) (owner_plan s (store_reads s step) step) plan h in
+    record { there = k.0; plan = plan; is_due = k.1; few = plan-few s (store_reads s step) step plan is }
 
 made_due : (s : State) (step : Step) (new : State) → step_result s step ≡ Ok new → IsDue s step
-made_due s step new e = due_by_plan (planned s step) s step new refl e
+made_due s step new e = due_by_plan (step_plan s step) s step new refl e
 
 -- ---- the place of a service
 
@@ -188,47 +190,48 @@ module _ (s : State) (p : NodeId) (worker place cause : ℕ) (plan : Plan) where
   by_live (Some n) is e = by_shard (shard_in n.body) n (alive_in (node s p) n (up_is_alive (view s p).node n is)) refl e
 
 -- with no more tuples than there are notes
-bag_by_name : (p : NodeId) (script : List Command) (notes : ℕ) (y : Shard) (cast : Cast) → is_shard cast p ≡ true → IsBodyReady script notes p (IsShard y)
+bag_by_name : (p : NodeId) (script : List Command) (notes : ℕ) (y : Shard) (scene : SceneModel) → is_shard scene p ≡ true
+    → IsBodyReady script notes p (IsShard y)
     → length y.bag ≤ notes
-bag_by_name (ids.Worker n) script notes y cast there h = absurd h
-bag_by_name (ids.Shard n) script notes y cast there h = h
+bag_by_name (ids.Worker n) script notes y scene there h = absurd h
+bag_by_name (ids.Shard n) script notes y scene there h = h
 
-place_small : (s : State) (p : NodeId) (worker place : ℕ) → IsReady s → s.found ≡ None → s.made < MAX_STEPS → is_shard s.cast p ≡ true
+place_small : (s : State) (p : NodeId) (worker place : ℕ) → IsReady s → s.found ≡ None → s.made < MAX_STEPS → is_shard s.scene p ≡ true
     → IsServing s p worker place → place ≤ 99999
 place_small s p worker place ready new few there h =
-    let Held : Option Node → Type 0 = λ row. IfSome row (IsNodeReady s.cast s.history s.made p) in
-    let live : IsLiveReady s.cast s.history s.made p h.live = subst Held h.alive (ready.nodes p) in
-    let body = subst (IsBodyReady (role_of s.cast p).script (length s.history) p) h.is_shard live.body in
-    let bag = bag_by_name p (role_of s.cast p).script (length s.history) h.shard s.cast there body in
+    let Held : Option Node → Type 0 = λ row. IfSome row (IsNodeReady s.scene s.history s.made p) in
+    let live : IsLiveReady s.scene s.history s.made p h.live = subst Held h.alive (ready.nodes p) in
+    let body = subst (IsBodyReady (role_of s.scene p).script (length s.history) p) h.is_shard live.body in
+    let bag = bag_by_name p (role_of s.scene p).script (length s.history) h.shard s.scene there body in
     let notes = ready.few_made new in
-    let at = by_waiting (desk_of h.shard worker).waiting h.shard.bag place h.found h.serves in
+    let at = by_waiting (session_of h.shard worker).waiting h.shard.bag place h.found h.serves in
     omega (arith, few, bag, notes, at)
 
 -- ---- each step
 
-neighbours_said : (cast : Cast) → IsCast cast → (p q : NodeId) → Ends cast p q → IsStepNode p × IsStepNode q
-neighbours_said cast is p q (to_shard a b c d) = ((a, omega (arith, b, is.few_workers)), (c, omega (arith, d, is.few_shards)))
-neighbours_said cast is p q (to_worker a b c d) = ((c, omega (arith, d, is.few_shards)), (a, omega (arith, b, is.few_workers)))
+neighbours_said : (scene : SceneModel) → IsScene scene → (p q : NodeId) → Ends scene p q → IsStepNode p × IsStepNode q
+neighbours_said scene is p q (to_shard a b c d) = ((a, omega (arith, b, is.few_workers)), (c, omega (arith, d, is.few_shards)))
+neighbours_said scene is p q (to_worker a b c d) = ((c, omega (arith, d, is.few_shards)), (a, omega (arith, b, is.few_workers)))
 
 step_said : (s : State) (step : Step) → IsReady s → s.found ≡ None → IsDue s step → IsStep step
-step_said s (Issue p) ready new h = node_said s.cast ready.cast p (worker-node s.cast p h.there)
-step_said s (Repeat p) ready new h = node_said s.cast ready.cast p (worker-node s.cast p h.there)
-step_said s (Deliver p q) ready new h = neighbours_said s.cast ready.cast p q (ends s.cast p q h.there)
-step_said s (Take p) ready new h = node_said s.cast ready.cast p h.there
+step_said s (Issue p) ready new h = node_said s.scene ready.scene p (worker-node s.scene p h.there)
+step_said s (Repeat p) ready new h = node_said s.scene ready.scene p (worker-node s.scene p h.there)
+step_said s (Deliver p q) ready new h = neighbours_said s.scene ready.scene p q (ends s.scene p q h.there)
+step_said s (Take p) ready new h = node_said s.scene ready.scene p h.there
 step_said s (Serve p w place) ready new h =
-    let both = and_parts (is_shard s.cast p) (is_worker s.cast w) h.there in
+    let both = and_parts (is_shard s.scene p) (is_worker s.scene w) h.there in
     let cause = cause_of_waiting s.history p (node_number w) in
     let serving = by_live s p (node_number w) place cause h.plan (up_of (view s p).node) refl h.is_due in (
-      node_said s.cast ready.cast p (shard-node s.cast p both.0),
-      node_said s.cast ready.cast w (worker-node s.cast w both.1),
+      node_said s.scene ready.scene p (shard-node s.scene p both.0),
+      node_said s.scene ready.scene w (worker-node s.scene w both.1),
       place_small s p (node_number w) place ready new h.few both.0 serving,
     )
-step_said s (Check p) ready new h = node_said s.cast ready.cast p h.there
-step_said s (Decide p) ready new h = node_said s.cast ready.cast p h.there
-step_said s (Abandon p) ready new h = node_said s.cast ready.cast p h.there
-step_said s (Learn p) ready new h = node_said s.cast ready.cast p h.there
-step_said s (Fail p) ready new h = node_said s.cast ready.cast p h.there
-step_said s (Restart p) ready new h = node_said s.cast ready.cast p h.there
+step_said s (Check p) ready new h = node_said s.scene ready.scene p h.there
+step_said s (Decide p) ready new h = node_said s.scene ready.scene p h.there
+step_said s (Abandon p) ready new h = node_said s.scene ready.scene p h.there
+step_said s (Learn p) ready new h = node_said s.scene ready.scene p h.there
+step_said s (Fail p) ready new h = node_said s.scene ready.scene p h.there
+step_said s (Restart p) ready new h = node_said s.scene ready.scene p h.there
 
 steps_said : (s : State) (steps : List Step) (t : State) → Holds s → s.found ≡ None → RunsTo s steps t → All IsStep steps
 steps_said s [] t holds new runs = All-nil IsStep
@@ -243,10 +246,11 @@ short_at [] n h = tt
 short_at (script ∷ later) zero h = of_script script (All-head IsScript script later h)
 short_at (script ∷ later) (suc n) h = short_at later n (All-tail IsScript script later h)
 
-all_short : (cast : Cast) → All IsScript cast.scripts → AreShort cast
-all_short cast h zero = tt
-all_short cast h (suc n) = short_at cast.scripts n h
+all_short : (scene : SceneModel) → All IsScript scene.scripts → AreShort scene
+all_short scene h zero = tt
+all_short scene h (suc n) = short_at scene.scripts n h
 
 -- the steps that lead from an opening can be said
-pub made_is_said : (cast : Cast) (steps : List Step) (s : State) → IsCast cast → All IsScript cast.scripts → RunsTo (opening cast) steps s → All IsStep steps
-made_is_said cast steps s is scripts runs = steps_said (opening cast) steps s (opening-holds cast is (all_short cast scripts)) refl runs
+pub made_is_said : (scene : SceneModel) (steps : List Step) (s : State) → IsScene scene → All IsScript scene.scripts → RunsTo (opening scene) steps s
+    → All IsStep steps
+made_is_said scene steps s is scripts runs = steps_said (opening scene) steps s (opening-holds scene is (all_short scene scripts)) refl runs

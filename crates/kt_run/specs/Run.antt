@@ -1,24 +1,26 @@
 -- What a run from bytes to bytes answers, and what it leaves read and written.
+-- Cited by Outcomes, Replayed, laws.rt, running.rt, `running::run_read`, `running::run_text_returning_store`,
+--   `running::run_told`; kt_command.
 use Rattle.std.specs.Prelude.{◌≡◌, ℕ, Bool, List, IsTrue, None}
 use Rattle.kt_store.specs.Calls.{Counts}
 use Rattle.kt_store.specs.Content.{Content}
 use Rattle.kt_core.specs.Store.{AreLater, StoreValue}
-use Rattle.kt_core.specs.declared.faults.FaultLine.{FaultLine}
+use Rattle.kt_scenario.specs.declared.faults.FaultLine.{FaultLine}
 use Rattle.kt_core.specs.declared.start.Start.{Start}
-use Rattle.kt_world.specs.declared.step.Step.{Step}
-use Rattle.kt_world.specs.State.{State}
+use Rattle.kt_scenario.specs.declared.step.Step.{Step}
+use Rattle.kt_model.specs.State.{State}
 use Rattle.kt_scene.specs.declared.fault.ReplayFault.{ReplayFault}
 use Rattle.kt_scene.specs.declared.fault.ReplayFault.TheVariants as faults
-use Rattle.kt_scene.specs.declared.scenario.WorkKind.TheVariants as kinds
-use Rattle.kt_scene.specs.Faults.{Explains}
+use Rattle.kt_text.specs.declared.scenario.WorkKind.TheVariants as kinds
+use Rattle.kt_text.specs.Faults.{Explains}
 use Rattle.kt_scene.specs.Journal.{WritesJournal, WritesJournalFront}
 use Rattle.kt_scene.specs.Outside.{Reader, Writer}
-use Rattle.kt_scene.specs.Reading.{Play}
+use Rattle.kt_text.specs.Reading.{ScenarioModel}
 use Rattle.kt_scene.specs.Report.{WritesReport, WritesReportFront}
 use Rattle.kt_scene.specs.Runs.{BeginsAndRunsTo}
-use Rattle.kt_scene.specs.Scenario.{IsScenario}
+use Rattle.kt_text.specs.Scenario.{IsScenario}
 use Rattle.kt_scene.specs.Stream.{IsAllRead, IsReadFault, IsReportFault, UnlessWrite}
-use Rattle.kt_scene.specs.Work.{Faults}
+use Rattle.kt_text.specs.Work.{Faults}
 use Rattle.kt_stage.specs.declared.running.RunFault.{RunFault}
 use Rattle.kt_stage.specs.Policy.{first_unfinished, spent_by}
 use Rattle.kt_stage.specs.Running.{IsStopped}
@@ -28,9 +30,9 @@ use Rattle.kt_run.specs.declared.running.Output.{Output}
 use Rattle.kt_run.specs.declared.running.Output.TheVariants as outputs
 
 -- the text is that of a scenario of these fault lines
-pub record IsTrial (text : List ℕ) (play : Play) (lines : List FaultLine) : Type 0 where
-  pub scenario : IsScenario text play
-  pub faults : play.work ≡ Faults lines
+pub record IsTrial (text : List ℕ) (model : ScenarioModel) (lines : List FaultLine) : Type 0 where
+  pub scenario : IsScenario text model
+  pub faults : model.work ≡ Faults lines
 
 -- A world begins so (`Start`): it is opened, or resumed.
 
@@ -39,10 +41,10 @@ pub record IsTrial (text : List ℕ) (play : Play) (lines : List FaultLine) : Ty
 -- fault lines being spent by the steps
 pub record IsRunOf (start : Start) (text : List ℕ) (is_honest : Bool) (c : Content) (steps : List Step) (s : State)
     : Type 0 where
-  pub play : Play
+  pub model : ScenarioModel
   pub lines : List FaultLine
-  pub trial : IsTrial text play lines
-  pub runs : IsTrue is_honest → BeginsAndRunsTo start c play.cast steps s
+  pub trial : IsTrial text model lines
+  pub runs : IsTrue is_honest → BeginsAndRunsTo start c model.scene steps s
   pub ended : IsTrue is_honest → first_unfinished s (spent_by lines steps) ≡ None
 
 -- what was read is such a text
@@ -93,10 +95,10 @@ UnlessFront (Run fault) P = P
 
 -- the text is that of a scenario of fault lines, whose run did not come to its end
 pub record IsStoppedTrial (start : Start) (was left : StoreValue) (text : List ℕ) (fault : RunFault) : Type 0 where
-  pub play : Play
+  pub model : ScenarioModel
   pub lines : List FaultLine
-  pub trial : IsTrial text play lines
-  pub why : IsStopped start was left play.cast lines fault
+  pub trial : IsTrial text model lines
+  pub why : IsStopped start was left model.scene lines fault
 
 -- what a text answers: its first fault, or want of memory before that, and the store that was given is left; or why its
 -- run did not come to its end

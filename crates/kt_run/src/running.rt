@@ -1,4 +1,5 @@
 //! From the bytes of a scenario to the bytes that tell of its run.
+//! Cited by kt_command, kt_quick.
 
 ghost use Rattle.std.specs.Prelude.{◌≡◌, Err, IfErr, IfOk, IsTrue, None, OnOk, Some};
 ghost use Rattle.kt_scene.specs.declared.fault.ReplayFault.TheVariants as text_faults;
@@ -13,7 +14,7 @@ use kt_scene::{
     ReplayFault, Scenario, Sink, Source, Start, WorkKind, read_scene, read_text, write_journal,
     write_report,
 };
-use kt_stage::{Gate, Journal, run_threads_over};
+use kt_stage::{Gate, Journal, run_threads_returning_left};
 use kt_store::CkptStore;
 use std::alloc::{AllocError, Global};
 use std::io::{Read, Write};
@@ -34,7 +35,7 @@ pub enum Output {
 /// written. What was read before a fault is gone from the reader. It may wait for its threads and the gate.
 ///
 /// The store is dropped, so its clauses speak of some store of its kind in place of the one that was left. Of a kind
-/// that is not always honest `run_text_over` says more.
+/// that is not always honest `run_text_returning_store` says more.
 pub fn run_text<T, R, W, S, G>(
     rt: &T,
     alloc: Global,
@@ -62,7 +63,16 @@ where
     // Before any fault but the writer's the writer is not called.
     ensures nothing { IfErr result (λ fault. UnlessFront fault (writer.new ≡ writer.old)) }
 {
-    let (answer, left) = run_text_over(rt, alloc, Start::Open, reader, writer, store, output, gate);
+    let (answer, left) = run_text_returning_store(
+        rt,
+        alloc,
+        Start::Open,
+        reader,
+        writer,
+        store,
+        output,
+        gate,
+    );
     drop(left);
     answer
 }
@@ -70,7 +80,7 @@ where
 /// As `run_text`, over a world that begins so: opened, or resumed. It gives the store back. `run_text` drops it, so its
 /// clauses can name no store that a caller sees; these speak of the one that is given back
 /// (docs/DECISIONS.md#the-report).
-pub fn run_text_over<T, R, W, S, G>(
+pub fn run_text_returning_store<T, R, W, S, G>(
     rt: &T,
     alloc: Global,
     start: Start,
@@ -160,7 +170,7 @@ where
     };
     // The work is of the kind that was asked for.
     let faults = work.into_faults().unwrap();
-    match run_threads_over(rt, alloc, start, scene, faults, store, gate) {
+    match run_threads_returning_left(rt, alloc, start, scene, faults, store, gate) {
         Ok(journal) => Ok(journal),
         Err((fault, left)) => Err((RunTextFault::from(fault), left.into_store())),
     }

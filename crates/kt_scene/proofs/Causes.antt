@@ -1,9 +1,10 @@
 -- Why an honest store refused a step.
+-- Cited by Runs.
 use Rattle.std.proofs.Common.{Bool, true, false}
 use Rattle.std.specs.Prelude.{IsTrue}
-use Rattle.kt_world.specs.declared.step.Step.{Step}
-use Rattle.kt_world.specs.declared.step.StepError.{StepError}
-use Rattle.kt_world.specs.State.{State}
+use Rattle.kt_scenario.specs.declared.step.Step.{Step}
+use Rattle.kt_model.specs.declared.error.StepError.{StepError}
+use Rattle.kt_model.specs.State.{State}
 use Rattle.kt_core.specs.Stepping.{IsCause}
 
 pub cause_honest : (s : State) (step : Step) (honest : Bool) (e : StepError) → IsTrue honest → IsCause s step honest e → IsCause s step true e

@@ -1,10 +1,11 @@
 -- What is known of bytes after one write and another.
+-- Cited by `stream::read_text`, `stream::write_text`.
 use Rattle.std.proofs.Common.{◌≡◌, ℕ, ◌+◌, ◌<◌, length, arith, length-append, List, ◌++◌, take, drop, Option, Some, None, sym, ap, ◌∙◌, subst}
 use Rattle.std.proofs.Common.{append_assoc}
 use Rattle.std.proofs.Math.Seq.{take-add}
 use Rattle.std.specs.Io.KnownBytes.{Keeps, Appends, Consumes}
 use Rattle.std.proofs.lemmas.List.{drop-drop}
-use Rattle.kt_scene.specs.declared.reading.TheConstants.{MAX_TEXT}
+use Rattle.kt_text.specs.declared.reading.TheConstants.{MAX_TEXT}
 use Rattle.kt_scene.specs.Stream.{IsTooLong}
 
 pub appends_then : (a b c : Option (List ℕ)) (x y : List ℕ) → Appends a b x → Appends b c y → Appends a c (x ++ y)

@@ -1,4 +1,5 @@
 -- Texts in rising order stand in one order only.
+-- Cited by OneReport.
 use Rattle.std.proofs.Common.{◌≡◌, ℕ, suc, ◌+◌, ◌≤◌, false, cond, List, [], ◌∷◌, get_or, sum_by, Contains, IsPermutation, Ordering, Less, Equal, Greater}
 use Rattle.std.proofs.Common.{refl, sym, ap, ◌∙◌, subst, add-one, arith}
 use Rattle.std.specs.List.Sorted.{IsSorted}

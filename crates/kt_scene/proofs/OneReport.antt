@@ -1,4 +1,5 @@
 -- A state has one report.
+-- Cited by `laws::a_state_has_one_report`; kt_run.
 use Rattle.std.proofs.Common.{◌≡◌, ℕ, true, List, [], ◌++◌, length, map, IsPermutation, refl, sym, ap, subst, ◌∙◌}
 use Rattle.std.specs.Prelude.{codes}
 use Rattle.std.specs.List.{flat_map}
@@ -7,8 +8,9 @@ use Rattle.kt_tuple.specs.declared.tuple.Tuple.{Tuple}
 use Rattle.kt_tuple.specs.Spelling.{tuple_text}
 use Rattle.kt_history.specs.Survival.{services, lost_count}
 use Rattle.kt_history.proofs.Shared.{RunsFrom-one}
-use Rattle.kt_world.specs.State.{State}
-use Rattle.kt_scene.specs.Report.{count_line, text_line, service_line, IsTextList, IsTupleList, IsReportOf}
+use Rattle.kt_model.specs.State.{State}
+use Rattle.kt_scene.specs.Report.{count_line, service_line, IsTextList, IsTupleList, IsReportOf}
+use Rattle.kt_text.specs.Text.{text_line}
 use Rattle.kt_scene.proofs.OneOrder.{one_order}
 
 -- the same texts are listed in one way

@@ -1,4 +1,5 @@
 -- What the steps of a scenario answer is what its replay answers.
+-- Cited by `replaying::report_returning_store`, `replaying::world_or_store`.
 use Rattle.std.proofs.Common.{◌≡◌, ◌≢◌, List, ℕ, Result, Ok, Err, subst}
 use Rattle.std.specs.Prelude.{IfErr}
 use Rattle.kt_core.specs.Store.{StoreValue}

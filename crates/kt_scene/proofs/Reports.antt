@@ -1,4 +1,5 @@
 -- The report that is written is that of the world, whose permanent tuples were asked for first.
+-- Cited by `report::report_of`.
 use Rattle.std.proofs.Common.{◌≡◌, ℕ, Bool, List, [], ◌++◌, length, map, sym, ap, subst, ◌∙◌}
 use Rattle.std.specs.Prelude.{IsTrue, codes}
 use Rattle.std.specs.List.{flat_map}
@@ -10,7 +11,7 @@ use Rattle.kt_history.specs.Survival.{services, lost_count}
 use Rattle.kt_tuple.specs.declared.tuple.Tuple.{Tuple}
 use Rattle.kt_history.specs.declared.note.Note.{Note}
 use Rattle.kt_scene.specs.Report.{count_line, service_line, IsReport}
-use Rattle.kt_scene.specs.inner.Texts.{AppendsTexts}
+use Rattle.kt_scene.specs.auxiliary.Texts.{AppendsTexts}
 
 -- the parts of a report, one behind the other
 pub reported : (is_honest : Bool) (h : List Note) (permanent space : List Tuple) (known served : List Service) (count lost : ℕ)

@@ -1,14 +1,15 @@
 -- Steps that were made, and one more.
+-- Cited by `replaying::make_steps`.
 use Rattle.std.proofs.Common.{◌≡◌, ℕ, suc, ◌+◌, ◌<◌, List, [], ◌∷◌, ◌++◌, length, take, drop, get_or, Ok, refl, sym, ap, subst, ◌∙◌, arith, length-take}
 use Rattle.std.proofs.Common.{take-append-drop, drop-cons, Bool, true}
 use Rattle.std.specs.Prelude.{IsTrue}
 use Rattle.std.proofs.lemmas.List.{take_more, get_or_default}
-use Rattle.kt_world.specs.declared.step.Step.{Step}
-use Rattle.kt_world.specs.declared.step.StepError.{StepError}
+use Rattle.kt_scenario.specs.declared.step.Step.{Step}
+use Rattle.kt_model.specs.declared.error.StepError.{StepError}
 use Rattle.kt_store.specs.Content.{Content}
-use Rattle.kt_world.specs.State.{State}
-use Rattle.kt_world.specs.Effect.{step_result}
-use Rattle.kt_world.specs.Judge.{planned}
+use Rattle.kt_model.specs.State.{State}
+use Rattle.kt_model.specs.Effect.{step_result}
+use Rattle.kt_model.specs.StepPlan.{step_plan}
 use Rattle.kt_core.specs.Stepping.{IsCalledFor, IsCause, Refuses}
 use Rattle.kt_scene.specs.Runs.{RunsTo, IsRefusedAt}
 use Rattle.kt_scene.proofs.Causes.{cause_honest}
@@ -29,7 +30,7 @@ made_more old steps i between step new lt at runs e =
 
 -- the step at this place was the first refused
 pub refused_at : (old : State) (steps : List Step) (i : ℕ) (between : State) (step : Step) (cause : StepError) (left : Content) → i < length steps
-    → step ≡ get_or steps i step → RunsTo old (take i steps) between → Refuses cause (planned between step) → IsCalledFor between step cause
+    → step ≡ get_or steps i step → RunsTo old (take i steps) between → Refuses cause (step_plan between step) → IsCalledFor between step cause
     → IsCause between step true cause → left ≡ between.content → IsRefusedAt old steps (i + 1) cause left
 refused_at old steps i between step cause left lt at runs e called why same = record {
   made = take i steps;
@@ -52,7 +53,7 @@ pub made_next : (old : State) (steps : List Step) (i : ℕ) (between : State) (d
 made_next old steps i between d new lt runs e = made_more old steps i between (get_or steps i d) new lt (get_or_default steps i d (get_or steps i d) lt) runs e
 
 pub refused_next : (old : State) (steps : List Step) (i : ℕ) (between : State) (d : Step) (cause : StepError) (honest : Bool) (left : State)
-    → i < length steps → RunsTo old (take i steps) between → Refuses cause (planned between (get_or steps i d))
+    → i < length steps → RunsTo old (take i steps) between → Refuses cause (step_plan between (get_or steps i d))
     → IsCalledFor between (get_or steps i d) cause → IsTrue honest → IsCause left (get_or steps i d) honest cause → left ≡ between
     → IsRefusedAt old steps (i + 1) cause left.content
 refused_next old steps i between d cause honest left lt runs e called is_honest why same =

@@ -1,4 +1,5 @@
 -- The texts of tuples, sorted, are the list that the report has of them.
+-- Cited by `report::push_sorted`, `report::push_tuples`.
 use Rattle.std.proofs.Common.{◌≡◌, ℕ, zero, suc, ◌+◌, ◌<◌, List, [], ◌∷◌, ◌++◌, length, map, get_or, refl, sym, ap, subst, ◌∙◌, append_assoc}
 use Rattle.std.proofs.Common.{arith}
 use Rattle.std.specs.Prelude.{IsPermutation, OnOk, Result, Ok, Err}
@@ -11,8 +12,9 @@ use Rattle.std.proofs.lemmas.List.{length-map}
 use Rattle.std.proofs.lemmas.List.Sorted.{IsPermutation-map}
 use Rattle.kt_tuple.specs.declared.tuple.Tuple.{Tuple}
 use Rattle.kt_tuple.specs.Spelling.{tuple_text}
-use Rattle.kt_scene.specs.Report.{count_line, text_line}
-use Rattle.kt_scene.specs.inner.Texts.{AppendsTexts, items_of}
+use Rattle.kt_scene.specs.Report.{count_line}
+use Rattle.kt_text.specs.Text.{text_line}
+use Rattle.kt_scene.specs.auxiliary.Texts.{AppendsTexts, items_of}
 
 get_or-items : (texts : List (Vec ℕ)) (k : ℕ) (v : Vec ℕ) (d : List ℕ) → k < length texts → get_or (items_of texts) k d ≡ (get_or texts k v).items
 get_or-items [] k v d h = absurd (omega arith)

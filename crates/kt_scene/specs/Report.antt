@@ -1,4 +1,6 @@
 -- The report of a world, as text.
+-- Cited by JournalWritten, OneReport, Reports, TupleLists, laws.rt, report.rt, specs/Journal, specs/Run,
+--   specs/auxiliary/Texts, `report::push_services`; kt_run.
 use Rattle.std.specs.Prelude.{◌≡◌, ℕ, Bool, List, [], ◌∷◌, ◌++◌, length, map, codes, decimal, IsPermutation, IsTrue}
 use Rattle.std.specs.List.{flat_map}
 use Rattle.std.specs.List.Sorted.{IsSorted}
@@ -10,20 +12,15 @@ use Rattle.kt_tuple.specs.Space.{IsSpaceRun}
 use Rattle.kt_tuple.specs.Spelling.{tuple_text, service_text}
 use Rattle.kt_history.specs.declared.note.Note.{Note}
 use Rattle.kt_history.specs.Survival.{services, lost_count}
-use Rattle.kt_world.specs.State.{State}
-use Rattle.kt_world.specs.Cut.{permanent_tuples}
+use Rattle.kt_model.specs.State.{State}
+use Rattle.kt_model.specs.Cut.{permanent_tuples}
+use Rattle.kt_text.specs.Text.{line_end, text_line}
 use Rattle.kt_scene.specs.Outside.{Writer}
 use Rattle.kt_scene.specs.Stream.{WritesAll, WritesFront}
-
-abbrev pub line_end : List ℕ
-line_end = 10 ∷ []
 
 -- a word, and how many there are
 abbrev pub count_line : List ℕ → ℕ → List ℕ
 count_line word count = word ++ decimal count ++ line_end
-
-abbrev pub text_line : List ℕ → List ℕ
-text_line text = text ++ line_end
 
 -- a service, on a line
 abbrev pub service_line : Service → List ℕ

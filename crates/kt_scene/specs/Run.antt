@@ -1,4 +1,7 @@
 -- What a replay of a scenario answers, and what it leaves read and written.
+-- kt_command, kt_run.
+-- Cited by Replays, replaying.rt, `replaying::replay_returning_store`, `replaying::report_returning_store`;
+--   kt_command, kt_run.
 use Rattle.std.specs.Prelude.{◌≡◌, ℕ, Bool, List, IsTrue, Err}
 use Rattle.kt_store.specs.Content.{Content}
 use Rattle.kt_core.specs.Starting.{Begins, IsErrorOf, IsUnbegun}
@@ -7,34 +10,29 @@ use Rattle.kt_core.specs.Stepping.{step_counted}
 use Rattle.kt_core.specs.declared.start.Start.{Start}
 use Rattle.kt_core.specs.declared.start.StartError.{StartError}
 use Rattle.kt_core.specs.declared.start.StartError.TheVariants as unbegun
-use Rattle.kt_world.specs.declared.step.StepError.{StepError}
-use Rattle.kt_world.specs.State.{State}
-use Rattle.kt_scene.specs.declared.scenario.Scenario.{Scenario}
-use Rattle.kt_scene.specs.declared.scenario.WorkKind.TheVariants as kinds
-use Rattle.kt_scene.specs.Faults.{Explains}
+use Rattle.kt_model.specs.declared.error.StepError.{StepError}
+use Rattle.kt_model.specs.State.{State}
+use Rattle.kt_text.specs.declared.scenario.WorkKind.TheVariants as kinds
+use Rattle.kt_text.specs.Faults.{Explains}
 use Rattle.kt_scene.specs.Runs.{BeginsAndRunsTo, IsRefusedAt}
-use Rattle.kt_scene.specs.Reading.{Play}
-use Rattle.kt_scene.specs.Work.{kind_of, steps_of, work_in}
-use Rattle.kt_scene.specs.Scenario.{IsScenario}
+use Rattle.kt_text.specs.Reading.{ScenarioModel}
+use Rattle.kt_text.specs.Work.{kind_of, steps_of}
+use Rattle.kt_text.specs.Scenario.{IsScenario}
 use Rattle.kt_scene.specs.Report.{IsReportOf, WritesReport, WritesReportFront}
 use Rattle.kt_scene.specs.Outside.{Reader, Writer}
 use Rattle.kt_scene.specs.Stream.{IsAllRead, IsReadFault, IsReportFault}
 use Rattle.kt_scene.specs.declared.fault.ReplayFault.{ReplayFault}
 use Rattle.kt_scene.specs.declared.fault.ReplayFault.TheVariants as faults
 
--- what a scenario as the code has it stands for
-abbrev pub play_in : Scenario → Play
-play_in scenario = record { cast = scenario.scene; work = work_in scenario.work }
-
 -- A world begins so (`Start`): it is opened, or resumed.
 
 -- the text is that of a scenario of steps, and as long as the store is honest, the steps led to this state from the
 -- first one of the scene's world, which began so over a store with this content
 pub record LeadsTo (start : Start) (text : List ℕ) (is_honest : Bool) (c : Content) (s : State) : Type 0 where
-  pub play : Play
-  pub is_kind : kind_of play.work ≡ kinds.Steps
-  pub scenario : IsScenario text play
-  pub runs : IsTrue is_honest → BeginsAndRunsTo start c play.cast (steps_of play.work) s
+  pub model : ScenarioModel
+  pub is_kind : kind_of model.work ≡ kinds.Steps
+  pub scenario : IsScenario text model
+  pub runs : IsTrue is_honest → BeginsAndRunsTo start c model.scene (steps_of model.work) s
 
 -- A store was given, which was like this, and is left as it is then. What is said of a refusal holds of any store, and
 -- what is said while the store that is left is honest, of one that was honest all the time.
@@ -43,21 +41,21 @@ pub record LeadsTo (start : Start) (text : List ℕ) (is_honest : Bool) (c : Con
 -- store counts its own refusal alone
 pub record IsFirstRefused (start : Start) (was left : StoreValue) (text : List ℕ) (at : ℕ) (cause : StepError)
     : Type 0 where
-  pub play : Play
-  pub is_kind : kind_of play.work ≡ kinds.Steps
-  pub scenario : IsScenario text play
+  pub model : ScenarioModel
+  pub is_kind : kind_of model.work ≡ kinds.Steps
+  pub scenario : IsScenario text model
   pub first : State
-  pub begins : IsTrue left.is_honest → Begins start was.content play.cast first
-  pub refused : IsTrue left.is_honest → IsRefusedAt first (steps_of play.work) at cause left.content
+  pub begins : IsTrue left.is_honest → Begins start was.content model.scene first
+  pub refused : IsTrue left.is_honest → IsRefusedAt first (steps_of model.work) at cause left.content
   pub counts : left.counts ≡ step_counted {T = Unit {0}} (Err cause) was.counts
 
 -- the text is that of a scenario of steps, and its world, which was to begin so, did not
 pub record IsUnstarted (start : Start) (was left : StoreValue) (text : List ℕ) (cause : StartError) : Type 0 where
-  pub play : Play
-  pub is_kind : kind_of play.work ≡ kinds.Steps
-  pub scenario : IsScenario text play
+  pub model : ScenarioModel
+  pub is_kind : kind_of model.work ≡ kinds.Steps
+  pub scenario : IsScenario text model
   pub kind : IsErrorOf start cause
-  pub refused : IsUnbegun play.cast was left cause
+  pub refused : IsUnbegun model.scene was left cause
 
 -- what a text answers: its first fault, or want of memory before that, and the store that was given is left; or it is
 -- that of a scenario of steps, whose world did not begin or whose first refused step this is

@@ -1,14 +1,15 @@
 -- Making steps one after the other.
+-- Cited by Runs, replaying.rt, specs/Run, specs/auxiliary/Making, `replaying::make_steps`; kt_run.
 use Rattle.std.specs.Prelude.{◌≡◌, ℕ, ◌+◌, true, List, [], ◌∷◌, ◌++◌, length, Ok}
-use Rattle.kt_world.specs.declared.step.Step.{Step}
-use Rattle.kt_world.specs.declared.step.StepError.{StepError}
+use Rattle.kt_scenario.specs.declared.step.Step.{Step}
+use Rattle.kt_model.specs.declared.error.StepError.{StepError}
 use Rattle.kt_store.specs.Content.{Content}
-use Rattle.kt_world.specs.Cast.{Cast}
+use Rattle.kt_scenario.specs.Scene.{SceneModel}
 use Rattle.kt_core.specs.Starting.{Begins}
 use Rattle.kt_core.specs.declared.start.Start.{Start}
-use Rattle.kt_world.specs.State.{State}
-use Rattle.kt_world.specs.Judge.{planned}
-use Rattle.kt_world.specs.Effect.{step_result}
+use Rattle.kt_model.specs.State.{State}
+use Rattle.kt_model.specs.StepPlan.{step_plan}
+use Rattle.kt_model.specs.Effect.{step_result}
 use Rattle.kt_core.specs.Stepping.{IsCalledFor, IsCause, Refuses}
 
 -- each of the steps is made, in order, and they lead from the one state to the other
@@ -17,10 +18,11 @@ RunsTo old [] new = new ≡ old
 RunsTo old (step ∷ later) new = (between : State) × (step_result old step ≡ Ok between) × RunsTo between later new
 
 -- these steps lead to the state from the first one of the scene's world, which began so over a store with this content
-pub record BeginsAndRunsTo (start : Start) (c : Content) (cast : Cast) (steps : List Step) (s : State) : Type 0 where
-  pub first : State
-  pub begins : Begins start c cast first
-  pub runs : RunsTo first steps s
+pub record BeginsAndRunsTo (start : Start) (c : Content) (scene : SceneModel) (steps : List Step) (s : State) : Type 0
+  where
+    pub first : State
+    pub begins : Begins start c scene first
+    pub runs : RunsTo first steps s
 
 -- the step with this number, counted from 1, is the first that is refused, for this cause. An honest store refuses for
 -- no damage, for being full only where it has no number left, and holds what it held before that step.
@@ -32,7 +34,7 @@ pub record IsRefusedAt (old : State) (steps : List Step) (at : ℕ) (cause : Ste
   pub count : at ≡ length made + 1
   pub reached : State
   pub runs : RunsTo old made reached
-  pub refusal : Refuses cause (planned reached refused)
+  pub refusal : Refuses cause (step_plan reached refused)
   pub called : IsCalledFor reached refused cause
   pub why : IsCause reached refused true cause
   pub content : left ≡ reached.content

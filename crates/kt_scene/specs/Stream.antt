@@ -1,11 +1,13 @@
 -- What is read of a reader and written to a writer.
+-- Cited by JournalWritten, Known, Replays, journal.rt, replaying.rt, report.rt, specs/Journal, specs/Report,
+--   specs/Run, stream.rt; kt_command, kt_run.
 use Rattle.std.specs.Prelude.{◌≡◌, ℕ, ◌<◌, Bool, List, length, take, Option, Some, None, Err}
 use Rattle.std.specs.Io.KnownBytes.{Appends, Consumes, IsAtEnd}
-use Rattle.kt_scene.specs.declared.reading.TheConstants.{MAX_TEXT}
+use Rattle.kt_text.specs.declared.reading.TheConstants.{MAX_TEXT}
 use Rattle.kt_core.specs.Store.{IsCountedBeside, IsFault}
 use Rattle.kt_store.specs.Calls.{Counts}
 use Rattle.kt_store.specs.declared.error.StoreError.{StoreError}
-use Rattle.kt_scene.specs.declared.fault.SceneError.TheVariants.{Limit}
+use Rattle.kt_text.specs.declared.fault.SceneError.TheVariants.{Limit}
 use Rattle.kt_scene.specs.declared.fault.ReplayFault.{ReplayFault}
 use Rattle.kt_scene.specs.declared.fault.ReplayFault.TheVariants as faults
 use Rattle.kt_scene.specs.declared.source.Outcome.TheVariants as outcomes

@@ -1,86 +1,14 @@
 //! What ends a replay.
+//! Cited by journal.rt, replaying.rt, report.rt, stream.rt; kt_command, kt_run, linda_kt.
 
 ghost use Rattle.std.specs.Prelude.{◌≡◌};
 
 use kt_core::{OpenError, ResumeError, StartError, StepError};
 use kt_store::StoreError;
+use kt_text::{SceneError, SceneFault};
 use std::error::Error;
 use std::fmt;
 use std::fmt::{Display, Formatter};
-
-/// What is wrong with a line of a scenario. Of several faults of one line it is the one with the
-/// lowest number.
-#[derive(Clone, Copy, Debug, PartialEq, Eq, thiserror::Error)]
-pub enum SceneError {
-    /// The line is not the header that must stand here.
-    #[error("Header")]
-    Header,
-    /// No rule allows such a line here.
-    #[error("Word")]
-    Word,
-    /// The command's tuple or template is not as said.
-    #[error("Tuple")]
-    Tuple,
-    /// A name breaks the rules of variables.
-    #[error("Variable")]
-    Variable,
-    /// A limit is passed: a number is out of its bounds, or there are too many commands, workers or bytes.
-    #[error("Limit")]
-    Limit,
-    /// A fault line names a node that is not in the scene.
-    #[error("Node")]
-    Node,
-    /// The text ends too early or goes on too long, or its last line has no line feed.
-    #[error("End")]
-    End,
-    /// Memory ran out.
-    #[error("OutOfMemory")]
-    OutOfMemory,
-}
-
-impl SceneError {
-    ghost use Rattle.kt_scene.specs.FaultNumber.{fault_number};
-
-    /// The fault's number, from 1 to 8: of several faults of one line the lowest is answered.
-    pub fn number(self) -> u8
-        ensures { result ≡ fault_number self }
-    {
-        match self {
-            SceneError::Header => 1,
-            SceneError::Word => 2,
-            SceneError::Tuple => 3,
-            SceneError::Variable => 4,
-            SceneError::Limit => 5,
-            SceneError::Node => 6,
-            SceneError::End => 7,
-            SceneError::OutOfMemory => 8,
-        }
-    }
-}
-
-/// Why a text is no scenario: its first line that has a fault, counted from 1, and what is wrong there.
-#[derive(Clone, Copy, Debug, PartialEq, Eq)]
-pub struct SceneFault {
-    /// The line, counted from 1, ignored ones too.
-    pub line: usize,
-    /// What is wrong there: the fault of the line with the lowest number.
-    pub cause: SceneError,
-}
-
-/// As `line 4: 3 Tuple`, or `memory`.
-impl Display for SceneFault {
-    fn fmt<W: fmt::Write>(&self, f: &mut Formatter<W>) -> fmt::Result {
-        match self.cause {
-            SceneError::OutOfMemory => write!(f, "memory"),
-            cause => {
-                let (line, number) = (self.line, cause.number());
-                write!(f, "line {line}: {number} {cause}")
-            }
-        }
-    }
-}
-
-impl Error for SceneFault {}
 
 /// Why a replay ended early. All but `Write` leave nothing written.
 #[derive(Clone, Copy, Debug, PartialEq, Eq)]
@@ -105,7 +33,7 @@ pub enum ReplayFault {
 
 impl From<StartError> for ReplayFault {
     ghost use Rattle.std.specs.Prelude.{◌≡◌};
-    ghost use Rattle.kt_scene.specs.inner.Unbegun.{fault_of};
+    ghost use Rattle.kt_scene.specs.auxiliary.Unbegun.{fault_of};
 
     ghost from_gives = { λ cause fault. fault ≡ fault_of cause };
 

@@ -1,4 +1,5 @@
 //! The text of a journal: a report as remarks, and then the scenario of the steps that led to it.
+//! Cited by kt_run.
 
 ghost use Rattle.std.specs.Prelude.{◌≡◌, ◌++◌, IfErr, IfOk, IsTrue, OnOk, Err};
 ghost use Rattle.kt_core.specs.World.{beside};
@@ -6,13 +7,12 @@ ghost use Rattle.kt_scene.specs.Journal.{WritesJournal, WritesJournalFront, jour
 ghost use Rattle.kt_scene.specs.Stream.{UnlessWrite, IsReportFault};
 
 use crate::fault::ReplayFault;
-use crate::reading::line_at;
 use crate::report::{push_count, report_text};
 use crate::sink::Sink;
 use crate::stream::write_text;
-use crate::writing::push_scenario;
 use kt_core::{Scene, Step, World};
 use kt_store::CkptStore;
+use kt_text::{line_at, push_scenario};
 use std::alloc::{AllocError, Global};
 use std::io::Write;
 

@@ -1,23 +1,24 @@
 //! From the bytes of a scenario to the bytes of its report.
+//! Cited by kt_command.
 
 ghost use Rattle.std.specs.Prelude.{◌≡◌, ◌≢◌, Err, IfOk, IfErr, IsTrue, OnOk};
-ghost use Rattle.kt_scene.specs.Work.{steps_of};
+ghost use Rattle.kt_text.specs.Work.{steps_of};
 ghost use Rattle.kt_scene.specs.Runs.{BeginsAndRunsTo, RunsTo};
-ghost use Rattle.kt_scene.specs.Run.{play_in, LeadsTo, IsTextFault, IsReplayed, IsReplayedReport, IsWorldFault};
-ghost use Rattle.kt_scene.specs.inner.Making.{IsStepFault, IsRunFault};
+ghost use Rattle.kt_text.specs.Reading.{model_of};
+ghost use Rattle.kt_scene.specs.Run.{LeadsTo, IsTextFault, IsReplayed, IsReplayedReport, IsWorldFault};
+ghost use Rattle.kt_scene.specs.auxiliary.Making.{IsStepFault, IsRunFault};
 ghost use Rattle.kt_scene.specs.Run.{WritesReplayed, WritesReplayedFront, IsReplayFault};
 ghost use Rattle.kt_scene.specs.Stream.{UnlessWrite};
 ghost use Rattle.kt_core.specs.Store.{IsLeftSome, store_value};
 
-use crate::fault::{ReplayFault, SceneFault};
-use crate::reading::read_scene;
+use crate::fault::ReplayFault;
 use crate::report::{report_text, write_report};
-use crate::scenario::{Scenario, WorkKind};
 use crate::sink::Sink;
 use crate::source::Source;
 use crate::stream::read_text;
 use kt_core::{Scene, Start, Step, World};
 use kt_store::CkptStore;
+use kt_text::{Scenario, SceneFault, WorkKind, read_scene};
 use std::alloc::Global;
 use std::io::{Read, Write};
 
@@ -25,7 +26,7 @@ use std::io::{Read, Write};
 /// writes; so a fault other than `Write` leaves nothing written. What was read before a fault is gone from the reader.
 ///
 /// The store is dropped, so its clauses speak of some store of its kind in place of the one that was left. Of a kind
-/// that is not always honest `replay_over` says more.
+/// that is not always honest `replay_returning_store` says more.
 pub fn replay<R: Read, W: Write, S: CkptStore + Drop>(
     alloc: Global,
     reader: &mut Source<R>,
@@ -44,7 +45,7 @@ pub fn replay<R: Read, W: Write, S: CkptStore + Drop>(
     // Before any fault but the writer's the writer is not called.
     ensures nothing { IfErr result (λ fault. UnlessWrite fault (writer.new ≡ writer.old)) }
 {
-    let (answer, left) = replay_over(alloc, Start::Open, reader, writer, store);
+    let (answer, left) = replay_returning_store(alloc, Start::Open, reader, writer, store);
     drop(left);
     answer
 }
@@ -69,7 +70,7 @@ pub fn resume_replay<R: Read, W: Write, S: CkptStore + Drop>(
     // Before any fault but the writer's the writer is not called.
     ensures nothing { IfErr result (λ fault. UnlessWrite fault (writer.new ≡ writer.old)) }
 {
-    let (answer, left) = replay_over(alloc, Start::Resume, reader, writer, store);
+    let (answer, left) = replay_returning_store(alloc, Start::Resume, reader, writer, store);
     drop(left);
     answer
 }
@@ -77,7 +78,7 @@ pub fn resume_replay<R: Read, W: Write, S: CkptStore + Drop>(
 /// As `replay` or `resume_replay`, by how the world begins, and gives the store back. Those two drop it, so their
 /// clauses can name no store that a caller sees; these speak of the one that is given back
 /// (docs/DECISIONS.md#the-report).
-pub fn replay_over<R: Read, W: Write, S: CkptStore + Drop>(
+pub fn replay_returning_store<R: Read, W: Write, S: CkptStore + Drop>(
     alloc: Global,
     start: Start,
     reader: &mut Source<R>,
@@ -94,7 +95,7 @@ pub fn replay_over<R: Read, W: Write, S: CkptStore + Drop>(
     // Before any fault but the writer's the writer is not called.
     ensures nothing { IfErr result.0 (λ fault. UnlessWrite fault (writer.new ≡ writer.old)) }
 {
-    match world_over(alloc, start, reader, store) {
+    match world_or_store(alloc, start, reader, store) {
         Ok(mut world) => {
             let answer = write_report(alloc, &mut world, writer);
             (answer, world.into_store())
@@ -103,9 +104,9 @@ pub fn replay_over<R: Read, W: Write, S: CkptStore + Drop>(
     }
 }
 
-/// As `replay_over` of a world that is opened, up to the writing: it gives the report and the store. A command that has
-/// to do something between the two then writes the report by `write_text`.
-pub fn report_over<R: Read, S: CkptStore + Drop>(
+/// As `replay_returning_store` of a world that is opened, up to the writing: it gives the report and the store. A
+/// command that has to do something between the two then writes the report by `write_text`.
+pub fn report_returning_store<R: Read, S: CkptStore + Drop>(
     alloc: Global,
     reader: &mut Source<R>,
     store: S,
@@ -116,7 +117,7 @@ pub fn report_over<R: Read, S: CkptStore + Drop>(
         (store_value S.CkptStore e.1) reader.old reader.new e.0) }
     ensures unwritten { IfErr result (λ e. e.0 ≢ ReplayFault.Write) }
 {
-    match world_over(alloc, Start::Open, reader, store) {
+    match world_or_store(alloc, Start::Open, reader, store) {
         Ok(mut world) => match report_text(alloc, &mut world) {
             Ok(report) => Ok((report, world.into_store())),
             Err(refused) => Err((refused, world.into_store())),
@@ -138,7 +139,7 @@ pub fn replay_world<R: Read, S: CkptStore + Drop>(
     ensures fault { IfErr result (λ fault. IsLeftSome (store_value S.CkptStore) (λ left.
         IsWorldFault Start.Open (store_value S.CkptStore store) left reader.old reader.new fault)) }
 {
-    match world_over(alloc, Start::Open, reader, store) {
+    match world_or_store(alloc, Start::Open, reader, store) {
         Ok(world) => Ok(world),
         Err((fault, left)) => {
             drop(left);
@@ -149,7 +150,7 @@ pub fn replay_world<R: Read, S: CkptStore + Drop>(
 
 /// The world that begins so, after the steps of the scenario that is read. It gives the store back where it is refused,
 /// so that the clause can speak of that store.
-fn world_over<R: Read, S: CkptStore + Drop>(
+fn world_or_store<R: Read, S: CkptStore + Drop>(
     alloc: Global,
     start: Start,
     reader: &mut Source<R>,
@@ -192,12 +193,12 @@ fn run_scenario<S: CkptStore + Drop>(
     store: S,
 ) -> Result<World<S>, (ReplayFault, S)>
     ensures replayed { IfOk result (λ world. IsTrue world.is_honest
-        → BeginsAndRunsTo start (S.content store) (play_in scenario).cast (steps_of (play_in scenario).work)
+        → BeginsAndRunsTo start (S.content store) (model_of scenario).scene (steps_of (model_of scenario).work)
         world.state) }
     ensures counts { IfOk result (λ world. world.counts ≡ S.counts store) }
     ensures fault { IfErr result (λ e. IsRunFault start (store_value S.CkptStore store)
         (store_value S.CkptStore e.1)
-        (play_in scenario).cast (steps_of (play_in scenario).work) e.0) }
+        (model_of scenario).scene (steps_of (model_of scenario).work) e.0) }
 {
     let Scenario { scene, work } = scenario;
     run(alloc, start, scene, work.steps(), store)

@@ -1,13 +1,15 @@
 //! The report of a world: what survives, what is lost, and the tuples.
+//! Cited by journal.rt, replaying.rt; kt_run.
 
 ghost use Rattle.std.specs.Prelude.{◌≡◌, ◌≢◌, ◌++◌, List, ℕ, map, IfOk, IfErr, IsTrue, OnErr, OnOk, Err};
 ghost use Rattle.std.specs.List.{flat_map};
 ghost use Rattle.kt_tuple.specs.Spelling.{tuple_text};
 ghost use Rattle.kt_core.specs.World.{beside};
 ghost use Rattle.kt_scene.specs.Report.{IsReport, IsReportOf, WritesReport, WritesReportFront};
-ghost use Rattle.kt_scene.specs.inner.Texts.{AppendsTexts};
-ghost use Rattle.kt_scene.specs.Report.{count_line, service_line, text_line};
-ghost use Rattle.kt_scene.specs.inner.Texts.{items_of};
+ghost use Rattle.kt_scene.specs.auxiliary.Texts.{AppendsTexts};
+ghost use Rattle.kt_scene.specs.Report.{count_line, service_line};
+ghost use Rattle.kt_text.specs.Text.{text_line};
+ghost use Rattle.kt_scene.specs.auxiliary.Texts.{items_of};
 ghost use Rattle.kt_scene.specs.Stream.{UnlessWrite, IsReportFault};
 
 use crate::fault::ReplayFault;

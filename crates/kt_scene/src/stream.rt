@@ -1,12 +1,13 @@
 //! All bytes of a reader, and all bytes to a writer.
+//! Cited by journal.rt, replaying.rt, report.rt; kt_command, kt_run.
 
 ghost use Rattle.std.specs.Prelude.{◌≡◌, ◌≤◌, length, IfOk, IfErr, OnOk, OnErr};
 ghost use Rattle.kt_scene.specs.Stream.{IsAllRead, IsReadFault, WritesAll, WritesFront};
 
-use crate::fault::{ReplayFault, SceneError};
-use crate::reading::MAX_TEXT;
+use crate::fault::ReplayFault;
 use crate::sink::Sink;
 use crate::source::{MAX_READS, Outcome, Source};
+use kt_text::{MAX_TEXT, SceneError};
 use std::alloc::Global;
 use std::io::{Read, Write};
 

@@ -1,4 +1,5 @@
 -- How many variables a script has with one command more.
+-- Cited by OneKind, script.rt.
 use Rattle.std.proofs.Common.{◌≡◌, ℕ, ◌+◌, Bool, true, false, true≢false, cond, List, [], ◌∷◌}
 use Rattle.std.proofs.Common.{◌++◌, length, length-append, Some, None, refl, sym, ap, ◌∙◌, arith}
 use Rattle.std.proofs.Math.Bool.{or-false, or-true}
@@ -7,7 +8,7 @@ use Rattle.kt_tuple.specs.declared.value.Kind.{Kind}
 use Rattle.kt_script.specs.declared.name.Name.{Name}
 use Rattle.kt_script.specs.Name.{same_name}
 use Rattle.kt_script.specs.Variables.{kind_in, with_bindings}
-use Rattle.kt_script.specs.inner.Counting.{count_new}
+use Rattle.kt_script.specs.auxiliary.Counting.{count_new}
 use Rattle.kt_script.proofs.Held.{same_is, same_refl}
 
 abbrev pub known : List (Name × Kind) → Name → Bool

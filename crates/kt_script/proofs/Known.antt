@@ -1,4 +1,5 @@
 -- Every name that a script binds is one of its variables.
+-- Cited by OneKind, Reaches.
 use Rattle.std.proofs.Common.{◌≡◌, ℕ, zero, suc, Bool, true, false, cond, List, [], ◌∷◌, ◌++◌, drop, None, Some, flat_map, refl, sym, ap, ◌∙◌}
 use Rattle.std.specs.Prelude.{if◌then◌else◌, is_some}
 use Rattle.kt_tuple.specs.declared.value.Kind.{Kind}

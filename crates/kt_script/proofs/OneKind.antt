@@ -1,4 +1,5 @@
 -- In a script a name is bound to values of one kind.
+-- Cited by InScript, `laws::names_have_one_kind`.
 use Rattle.std.proofs.Common.{◌≡◌, ℕ, zero, suc, ◌<◌, Bool, true, false, cond, List, [], ◌∷◌, ◌++◌, length, get_or}
 use Rattle.std.proofs.Common.{append_assoc, flat_map, Option, None, Some, refl, sym, ap, subst, ◌∙◌, arith}
 use Rattle.std.specs.Prelude.{if◌then◌else◌, is_some, not, ◌&&◌, Contains}

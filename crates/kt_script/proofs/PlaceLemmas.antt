@@ -1,4 +1,5 @@
 -- The value of a name stands at the name's number.
+-- Cited by variables.rt, `variables::held`, `variables::hold`.
 use Rattle.std.proofs.Common.{◌≡◌, ℕ, ◌≤◌, length, arith, zero, suc, true, false, pos, List, [], ◌∷◌, slice_set, position, None, Some, refl, ap, ◌∙◌}
 use Rattle.std.specs.Prelude.{slice_index_or, if◌then◌else◌}
 use Rattle.std.specs.Map.{keys_of}

@@ -1,4 +1,5 @@
 -- A script with one command more.
+-- Cited by Limits, OneKind, `Script::append`, `variables::bind`; kt_text.
 use Rattle.std.proofs.Common.{◌≡◌, Bool, true, false, cond, List, [], ◌∷◌, ◌++◌, flat_map, None, Some}
 use Rattle.std.proofs.Common.{Result, Ok, Err, IsOk, OnOk, append_assoc, refl, sym, ap, subst, ◌∙◌}
 use Rattle.std.specs.Prelude.{if◌then◌else◌, is_some}

@@ -1,4 +1,5 @@
 -- An operation is left exactly where one is next.
+-- Cited by `Script::has_next`.
 use Rattle.std.proofs.Common.{◌≡◌, ℕ, zero, suc, ◌+◌, List, [], ◌∷◌, Option, None, Some, refl}
 use Rattle.std.specs.Prelude.{is_some, if◌then◌else◌}
 use Rattle.kt_tuple.specs.declared.value.Kind.{Kind}
@@ -8,7 +9,7 @@ use Rattle.kt_script.specs.declared.command.Command.TheVariants.{Ask, Set, Unles
 use Rattle.kt_script.specs.Memory.{Memory}
 use Rattle.kt_script.specs.declared.next.Next.{Next}
 use Rattle.kt_script.specs.Next.{assigned, next_from, op_of_next}
-use Rattle.kt_script.specs.inner.Left.{has_next_from}
+use Rattle.kt_script.specs.auxiliary.Left.{has_next_from}
 
 pub is_some-next_from : (vs : List (Name × Kind)) (memory : Memory) (skipped pc : ℕ) (commands : List Command)
     → is_some (next_from vs memory skipped pc commands) ≡ has_next_from memory.was_none skipped commands

@@ -1,4 +1,5 @@
 -- Answers that bind nothing.
+-- Cited by `laws::bind_changes_only_formals`.
 use Rattle.std.proofs.Common.{◌≡◌, ℕ, Bool, true, false, List, [], refl, ap, ◌∙◌}
 use Rattle.std.specs.Prelude.{if◌then◌else◌}
 use Rattle.kt_tuple.specs.declared.op.Answer.{Answer}

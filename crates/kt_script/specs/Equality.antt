@@ -1,5 +1,6 @@
 -- When two actuals or two places of a command's template are one, as tests that compute, and that these tests
 -- decide equality.
+-- Cited by equality.rt.
 use Rattle.std.specs.Prelude.{◌≡◌, Bool, false, nat_eq, ◌&&◌, Option, None, Some, refl}
 use Rattle.std.specs.Bool.{Decides}
 use Rattle.std.specs.Cmp.Lexicographic.{pointwise}

@@ -8,4 +8,4 @@ pub mod Memory
 pub mod Next
 pub mod Equality
 pub mod Spelling
-pub mod inner
+pub mod auxiliary

@@ -1,4 +1,5 @@
 //! What a worker keeps of its script between two operations.
+//! Cited by next.rt, script.rt; kt_worker.
 
 ghost use Rattle.std.specs.Prelude.{◌≡◌, ◌++◌, ◌∷◌, [], List, IfOk, Some, map};
 ghost use Rattle.kt_script.specs.Asks.{is_none_answer};

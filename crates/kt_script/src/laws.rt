@@ -1,4 +1,5 @@
 //! Laws about the definitions, each the contract of a function with nothing to do.
+//! Cited by no other file of crates/.
 
 ghost use Rattle.std.specs.Prelude.{◌≡◌, ◌≤◌, ℕ, true, false, List, length, [], ◌∷◌, ◌++◌, Some, Contains, flat_map};
 ghost use Rattle.kt_tuple.specs.declared.op.Answer.{Answer};

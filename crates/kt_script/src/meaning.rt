@@ -1,4 +1,5 @@
 //! What commands mean where the variables have values.
+//! Cited by env.rt, next.rt.
 
 ghost use Rattle.std.specs.Prelude.{◌≡◌, ◌++◌, IfOk, OnOk, map, List};
 ghost use Rattle.kt_tuple.specs.Signature.{kind_of_place};
@@ -22,7 +23,7 @@ pub(crate) struct Scope<'a> {
 }
 
 impl Scope<'_> {
-    ghost use Rattle.kt_script.specs.inner.Scope.{meaning_in};
+    ghost use Rattle.kt_script.specs.auxiliary.Scope.{meaning_in};
 
     /// The value of the name. It is 0 where the name is not bound: by the rules of a script no command uses such a
     /// name.

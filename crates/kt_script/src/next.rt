@@ -1,7 +1,8 @@
 //! The operation that a script makes next.
+//! Cited by script.rt; kt_worker.
 
 ghost use Rattle.std.specs.Prelude.{◌≡◌, ◌+◌, ◌<◌, ◌^◌, IfOk, length};
-ghost use Rattle.kt_script.specs.inner.Left.{has_next_from};
+ghost use Rattle.kt_script.specs.auxiliary.Left.{has_next_from};
 ghost use Rattle.kt_script.specs.Meaning.{op_of};
 ghost use Rattle.kt_script.specs.Memory.{held};
 ghost use Rattle.kt_script.specs.Next.{next_from, assigned};

@@ -1,4 +1,5 @@
 //! The places of a command's tuple or template.
+//! Cited by command.rt.
 
 ghost use Rattle.std.specs.Prelude.{◌≡◌, ◌↔◌, IsSome, IfSome};
 ghost use Rattle.kt_tuple.specs.Matching.{HasArity};

@@ -1,4 +1,5 @@
 //! Which command may follow a script: the rules of variables and the limits, judged without memory.
+//! Cited by script.rt.
 
 ghost use Rattle.std.specs.Prelude.{◌≡◌, ◌≤◌, length, flat_map};
 ghost use Rattle.std.specs.List.{list_all};
@@ -6,7 +7,7 @@ ghost use Rattle.kt_script.specs.Command.{slot_bindings, bindings};
 ghost use Rattle.kt_script.specs.Variables.{kind_in};
 ghost use Rattle.kt_script.specs.Rules.{is_bound, is_slot_bound, are_slots_bound, are_actuals_bound};
 ghost use Rattle.kt_script.specs.Rules.{agrees, are_uses_bound, are_kinds_kept, keeps_rules, has_count};
-ghost use Rattle.kt_script.specs.inner.Counting.{count_new};
+ghost use Rattle.kt_script.specs.auxiliary.Counting.{count_new};
 
 use crate::command::{Actual, Command, Operation, Slot};
 use crate::name::Name;

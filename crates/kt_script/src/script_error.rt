@@ -1,4 +1,5 @@
 //! Why a command may not follow a script.
+//! Cited by script.rt; kt_text.
 
 use thiserror::Error;
 

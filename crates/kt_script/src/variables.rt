@@ -1,4 +1,5 @@
 //! The variables of a script: its names in the order of their first bindings, and their values.
+//! Cited by env.rt, meaning.rt, next.rt, rules.rt, script.rt.
 
 ghost use Rattle.std.specs.Prelude.{◌≡◌, ◌+◌, ◌<◌, ◌≤◌, IfOk, OnOk, OnErr, Some, position, pos, unwrap_or};
 ghost use Rattle.std.specs.Option.{option_copied};

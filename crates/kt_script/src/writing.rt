@@ -1,4 +1,5 @@
 //! The one text of each command, written at the end of bytes.
+//! Cited by whoever calls the trait `Spelled`.
 
 ghost use Rattle.std.specs.Prelude.{◌≡◌, ◌++◌, OnOk, OnErr, codes, ⊤};
 ghost use Rattle.std.specs.Io.{StartsWith};

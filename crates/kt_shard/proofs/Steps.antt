@@ -1,4 +1,5 @@
 -- A service is a step of the sequential space on the shard's own tuples.
+-- Cited by Written, `laws::services_are_steps_of_the_space`; kt_model.
 use Rattle.std.proofs.Common.{◌≡◌, if◌then◌else◌, ℕ, ◌==◌, Bool, true, false, List, [], ◌∷◌, ◌++◌, Option, None, Some, Ok, refl, subst, sym, eqb-true}
 use Rattle.std.specs.List.{slice_get}
 use Rattle.std.specs.Option.{option_map}
@@ -13,7 +14,7 @@ use Rattle.kt_tuple.specs.Space.{SpaceStep, Withdraws, Reads, FindsNone}
 use Rattle.kt_space.specs.Picking.{matching, without_match}
 use Rattle.kt_space.proofs.Shared.{without_none, takes_out, match_contained, match_permutes, fewer, nothing_matches}
 use Rattle.kt_shard.specs.declared.request.Request.{Request}
-use Rattle.kt_shard.specs.Shard.{Shard, desk_of}
+use Rattle.kt_shard.specs.Shard.{Shard, session_of}
 use Rattle.kt_shard.specs.Service.{Service, at_first, got_or_none, answer_at, left_by, service_if, service_of, service}
 
 -- the operation is served with the match of a place, and answered so
@@ -69,21 +70,21 @@ answer-step bag (Rdp t) place answer e = by (slice_get (matching t bag) place) r
 
 -- how a service came to be: the worker waited with the request, and the match of the place answers it
 pub record IsDue (y : Shard) (worker place : ℕ) (s : Service) : Type 0 where
-  pub waited : (desk_of y worker).waiting ≡ Some s.request
+  pub waited : (session_of y worker).waiting ≡ Some s.request
   pub asked_for : s.place ≡ place
   pub answer : answer_at y.bag s.request.op s.place ≡ Some s.answer
 
 pub service-due : (y : Shard) (worker place : ℕ) (s : Service) → service y worker place ≡ Ok s → IsDue y worker place s
-service-due y worker place s e = by (desk_of y worker).waiting refl e
+service-due y worker place s e = by (session_of y worker).waiting refl e
   where
-    with_answer : (request : Request) (o : Option Answer) → (desk_of y worker).waiting ≡ Some request → answer_at y.bag request.op place ≡ o
+    with_answer : (request : Request) (o : Option Answer) → (session_of y worker).waiting ≡ Some request → answer_at y.bag request.op place ≡ o
         → service_if request place o ≡ Ok s → IsDue y worker place s
     with_answer request None was at e = absurd cc
     with_answer request (Some answer) was at e =
         let same : record { request = request; place = place; answer = answer } ≡ s = cc in
         subst (IsDue y worker place) same (record { waited = was; asked_for = refl; answer = at })
 
-    by : (o : Option Request) → (desk_of y worker).waiting ≡ o → service_of y.bag o place ≡ Ok s → IsDue y worker place s
+    by : (o : Option Request) → (session_of y worker).waiting ≡ o → service_of y.bag o place ≡ Ok s → IsDue y worker place s
     by None was e = absurd cc
     by (Some request) was e = with_answer request (answer_at y.bag request.op place) was refl e
 

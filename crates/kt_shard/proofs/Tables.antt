@@ -1,10 +1,12 @@
 -- Reading a table where something was put, and elsewhere.
+-- Cited by Again, Written, `laws::a_table_reads_what_was_put`, `laws::other_sessions_stay`; kt_logs, kt_model,
+--   kt_refinement, kt_resume, kt_state.
 use Rattle.std.proofs.Common.{◌≡◌, ◌≢◌, ℕ, zero, suc, ◌<◌, List, [], ◌∷◌, length, get_or, set, refl, sym, ap, ◌∙◌, arith}
 use Rattle.std.specs.Prelude.{Some}
 use Rattle.std.proofs.lemmas.List.{get_or_default}
 use Rattle.kt_shard.specs.declared.request.Request.{Request}
-use Rattle.kt_shard.specs.declared.desk.Desk.{Desk}
-use Rattle.kt_shard.specs.Desk.{empty_desk}
+use Rattle.kt_shard.specs.declared.session.Session.{Session}
+use Rattle.kt_shard.specs.Session.{empty_session}
 use Rattle.kt_shard.specs.Table.{at, put}
 
 pub at-put_same : {A : Type 0} (d : A) (xs : List A) (k : ℕ) (y : A) → at d (put d xs k y) k ≡ y
@@ -38,13 +40,14 @@ length-put d [] k y h = absurd (omega arith)
 length-put d (x ∷ xs) zero y h = refl
 length-put d (x ∷ xs) (suc k) y h = ap suc (length-put d xs k y (omega arith))
 
--- a desk that is written over in place is put into the table
-pub put_desk : (desks : List Desk) (worker : ℕ) (new desk : Desk) → worker < length desks → new ≡ desk → set desks worker new ≡ put empty_desk desks worker desk
-put_desk desks worker new desk lt e = ap (set desks worker) e ∙ sym (put-set empty_desk desks worker desk lt)
+-- a session that is written over in place is put into the table
+pub put_session : (sessions : List Session) (worker : ℕ) (new session : Session) → worker < length sessions → new ≡ session
+    → set sessions worker new ≡ put empty_session sessions worker session
+put_session sessions worker new session lt e = ap (set sessions worker) e ∙ sym (put-set empty_session sessions worker session lt)
 
-pub put_waiting : (desks : List Desk) (worker : ℕ) (old new : Desk) (request : Request) → worker < length desks → old ≡ get_or desks worker old
-    → new ≡ record { waiting = Some request; kept = old.kept }
-    → set desks worker new ≡ put empty_desk desks worker (record { waiting = Some request; kept = (at empty_desk desks worker).kept })
-put_waiting desks worker old new request lt was e =
-    let same : old ≡ at empty_desk desks worker = was ∙ get_or_default desks worker old empty_desk lt in
-    put_desk desks worker new _ lt (e ∙ ap (λ (d : Desk). record { waiting = Some request; kept = d.kept }) same)
+pub put_waiting : (sessions : List Session) (worker : ℕ) (old new : Session) (request : Request) → worker < length sessions → old ≡ get_or sessions worker old
+    → new ≡ record { waiting = Some request; cached = old.cached }
+    → set sessions worker new ≡ put empty_session sessions worker (record { waiting = Some request; cached = (at empty_session sessions worker).cached })
+put_waiting sessions worker old new request lt was e =
+    let same : old ≡ at empty_session sessions worker = was ∙ get_or_default sessions worker old empty_session lt in
+    put_session sessions worker new _ lt (e ∙ ap (λ (d : Session). record { waiting = Some request; cached = d.cached }) same)

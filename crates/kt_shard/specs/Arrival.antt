@@ -1,14 +1,15 @@
 -- What a shard makes of a request that it hears.
+-- Cited by Again, Written, arrival.rt, laws.rt, parts.rt, shard.rt; kt_model, kt_node, kt_state.
 use Rattle.std.specs.Prelude.{ℕ, nat_lt, if◌then◌else◌, Option, None, Some}
 use Rattle.kt_tuple.specs.declared.op.Answer.{Answer}
 use Rattle.kt_shard.specs.declared.request.Request.{Request}
-use Rattle.kt_shard.specs.declared.desk.Desk.{Desk}
+use Rattle.kt_shard.specs.declared.session.Session.{Session}
 use Rattle.kt_shard.specs.declared.arrival.Arrival.{Arrival as ArrivalCode}
 use Rattle.kt_shard.specs.declared.arrival.Arrival.TheVariants as codes
 use Rattle.kt_shard.specs.declared.arrival.Heard.{Heard as HeardCode}
 use Rattle.kt_shard.specs.declared.arrival.Heard.TheVariants as heards
-use Rattle.kt_shard.specs.Shard.{Shard, desk_of, with_desk}
-use Rattle.kt_shard.specs.Desk.{newest, kept_answer}
+use Rattle.kt_shard.specs.Shard.{Shard, session_of, with_session}
+use Rattle.kt_shard.specs.Session.{newest, cached_answer}
 
 pub data Arrival : Type 0 where
   -- the worker waits with it from now on
@@ -35,17 +36,18 @@ again_or_ignored None = Ignored
 again_or_ignored (Some answer) = Again answer
 
 -- a new number waits, the request that is kept is answered again, and all else is ignored
-abbrev pub arrival_at : Desk → Request → Arrival
-arrival_at desk request =
-    if nat_lt (newest desk) request.number then Waits else again_or_ignored (kept_answer desk request)
+abbrev pub arrival_at : Session → Request → Arrival
+arrival_at session request =
+    if nat_lt (newest session) request.number then Waits else again_or_ignored (cached_answer session request)
 
 -- what hearing the request of the worker with this number comes to
 abbrev pub arrival : Shard → ℕ → Request → Arrival
-arrival y worker request = arrival_at (desk_of y worker) request
+arrival y worker request = arrival_at (session_of y worker) request
 
 -- the worker of this number waits with the request
 abbrev pub waiting_shard : Shard → ℕ → Request → Shard
-waiting_shard y worker request = with_desk y worker (record { waiting = Some request; kept = (desk_of y worker).kept })
+waiting_shard y worker request = with_session y worker
+    (record { waiting = Some request; cached = (session_of y worker).cached })
 
 -- the shard after hearing what comes to this
 abbrev pub heard_as : Arrival → Shard → ℕ → Request → Shard

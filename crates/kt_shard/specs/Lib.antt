@@ -1,9 +1,9 @@
 pub mod Limits
 pub mod Table
-pub mod Desk
+pub mod Session
 pub mod Shard
 pub mod Arrival
 pub mod Service
-pub mod Standing
+pub mod ShardModel
 pub mod Views
-pub mod inner
+pub mod auxiliary

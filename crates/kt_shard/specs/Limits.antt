@@ -1,7 +1,8 @@
--- How many desks a shard has.
+-- How many sessions a shard has.
+-- Cited by Written, laws.rt, parts.rt, shard.rt, specs/Shard; kt_core, kt_model, kt_node, kt_resume, kt_state.
 use Rattle.std.specs.Prelude.{ℕ, ◌+◌}
 use Rattle.kt_tuple.specs.declared.node.TheConstants.{MAX_WORKERS}
 
--- the numbers that workers can have, 0 counted: so many desks has a shard
-abbrev pub desks : ℕ
-desks = MAX_WORKERS + 1
+-- the numbers that workers can have, 0 counted: so many sessions has a shard
+abbrev pub sessions : ℕ
+sessions = MAX_WORKERS + 1

@@ -1,4 +1,6 @@
 -- How a shard serves a request.
+-- Cited by Again, Steps, Written, laws.rt, parts.rt, service.rt, shard.rt, specs/Views, `Parts::carry_out`; kt_model,
+--   kt_node, kt_refinement, kt_run, kt_stage, kt_state.
 use Rattle.std.specs.Prelude.{◌≡◌, ◌≢◌, ℕ, ◌==◌, if◌then◌else◌, List, [], ◌∷◌, ◌++◌}
 use Rattle.std.specs.Prelude.{Option, None, Some, slice_get, Result, Ok, Err, IsOk}
 use Rattle.std.specs.Option.{option_map}
@@ -10,10 +12,10 @@ use Rattle.kt_tuple.specs.declared.op.Answer.TheVariants as answers
 use Rattle.kt_tuple.specs.Space.{SpaceStep}
 use Rattle.kt_space.specs.Picking.{matching, without_match}
 use Rattle.kt_shard.specs.declared.request.Request.{Request}
-use Rattle.kt_shard.specs.declared.request.Kept.{Kept}
+use Rattle.kt_shard.specs.declared.request.CachedReply.{CachedReply}
 use Rattle.kt_shard.specs.declared.error.ServeError.{ServeError}
 use Rattle.kt_shard.specs.declared.error.ServeError.TheVariants as refusals
-use Rattle.kt_shard.specs.Shard.{Shard, desk_of, with_desk}
+use Rattle.kt_shard.specs.Shard.{Shard, session_of, with_session}
 
 -- what is served: the request, the place of its match among the tuples that match, and how it is answered
 pub record Service : Type 0 where
@@ -56,17 +58,17 @@ service_of bag (Some request) place = service_if request place (answer_at bag re
 
 -- how the waiting request of the worker with this number is served with the match of this place, or why not
 abbrev pub service : Shard → ℕ → ℕ → Result Service ServeError
-service y worker place = service_of y.bag (desk_of y worker).waiting place
+service y worker place = service_of y.bag (session_of y worker).waiting place
 
 -- what is kept of a service
-abbrev pub kept_of : Service → Kept
-kept_of s = record { request = s.request; answer = s.answer }
+abbrev pub cached_of : Service → CachedReply
+cached_of s = record { request = s.request; answer = s.answer }
 
 -- the shard after the service of the worker with this number: it waits no more, and the answer is kept
 abbrev pub served : Shard → ℕ → Service → Shard
 served y worker s =
-    with_desk (record y { bag = left_by y.bag s.request.op s.place }) worker
-    (record { waiting = None; kept = Some (kept_of s) })
+    with_session (record y { bag = left_by y.bag s.request.op s.place }) worker
+    (record { waiting = None; cached = Some (cached_of s) })
 
 -- the refusal is the one that is due; where none is, memory ran out
 abbrev pub Refuses : ServeError → Result Service ServeError → Type 0
@@ -75,8 +77,8 @@ Refuses refusal due = due ≡ Err refusal
 
 -- a step of the sequential space on the shard's own tuples answered what the worker waited with, and that is kept
 pub record IsServed (old : Shard) (worker : ℕ) (new : Shard) : Type 0 where
-  pub kept : Kept
-  pub waited : (desk_of old worker).waiting ≡ Some kept.request
-  pub step : SpaceStep old.bag kept.request.op kept.answer new.bag
-  pub desk : desk_of new worker ≡ record { waiting = None; kept = Some kept }
-  pub others : (v : ℕ) → v ≢ worker → desk_of new v ≡ desk_of old v
+  pub cached : CachedReply
+  pub waited : (session_of old worker).waiting ≡ Some cached.request
+  pub step : SpaceStep old.bag cached.request.op cached.answer new.bag
+  pub session : session_of new worker ≡ record { waiting = None; cached = Some cached }
+  pub others : (v : ℕ) → v ≢ worker → session_of new v ≡ session_of old v

@@ -1,24 +1,26 @@
 -- A shard, as plain data.
+-- Cited by Again, Steps, Written, laws.rt, parts.rt, shard.rt, specs/Arrival, specs/Service, specs/ShardModel,
+--   specs/auxiliary/Sharing; kt_core, kt_model, kt_node, kt_resume, kt_run, kt_stage, kt_state.
 use Rattle.std.specs.Prelude.{ℕ, List, [], replicate}
 use Rattle.kt_tuple.specs.declared.tuple.Tuple.{Tuple}
-use Rattle.kt_shard.specs.declared.desk.Desk.{Desk}
-use Rattle.kt_shard.specs.Limits.{desks as desk_count}
+use Rattle.kt_shard.specs.declared.session.Session.{Session}
+use Rattle.kt_shard.specs.Limits.{sessions as session_count}
 use Rattle.kt_shard.specs.Table.{at, put}
-use Rattle.kt_shard.specs.Desk.{empty_desk}
+use Rattle.kt_shard.specs.Session.{empty_session}
 
 -- the tuples in order of arrival, and what is remembered of each worker, by the worker's number
 pub record Shard : Type 0 where
   pub bag : List Tuple
-  pub desks : List Desk
+  pub sessions : List Session
 
 -- no tuple, and no worker heard of
 abbrev pub empty_shard : Shard
-empty_shard = record { bag = []; desks = replicate desk_count empty_desk }
+empty_shard = record { bag = []; sessions = replicate session_count empty_session }
 
 -- what is remembered of the worker with this number
-abbrev pub desk_of : Shard → ℕ → Desk
-desk_of y worker = at empty_desk y.desks worker
+abbrev pub session_of : Shard → ℕ → Session
+session_of y worker = at empty_session y.sessions worker
 
--- the shard with another desk for the worker with this number
-abbrev pub with_desk : Shard → ℕ → Desk → Shard
-with_desk y worker desk = record y { desks = put empty_desk y.desks worker desk }
+-- the shard with another session for the worker with this number
+abbrev pub with_session : Shard → ℕ → Session → Shard
+with_session y worker session = record y { sessions = put empty_session y.sessions worker session }

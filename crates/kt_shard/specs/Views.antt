@@ -1,4 +1,5 @@
 -- What the code lends and prepares, as plain data.
+-- Cited by service.rt, shard.rt, `Shard::serve`.
 use Rattle.std.specs.Prelude.{◌≡◌, Result, Ok, Err}
 use Rattle.kt_tuple.specs.declared.op.Answer.{Answer}
 use Rattle.kt_tuple.specs.declared.op.Answer.TheVariants as answers

@@ -1,11 +1,12 @@
 //! What a shard makes of a request that arrives.
+//! Cited by shard.rt; kt_node.
 
 ghost use Rattle.std.specs.Prelude.{◌≡◌, max, IfOk};
 ghost use Rattle.std.specs.Option.{option_copied};
-ghost use Rattle.kt_shard.specs.Desk.{number_or_0, kept_request, answer_unless_waiting};
+ghost use Rattle.kt_shard.specs.Session.{number_or_0, cached_request, answer_unless_waiting};
 ghost use Rattle.kt_shard.specs.Arrival.{arrival_view, heard_view, arrival_at};
 
-use crate::request::{Kept, Request};
+use crate::request::{CachedReply, Request};
 use kt_tuple::Answer;
 use std::alloc::{AllocError, Global};
 
@@ -16,7 +17,7 @@ pub enum Arrival<'a> {
     Waits,
     /// It is the request that was served last, and the worker does not wait: it is answered so once more.
     Again(&'a Answer),
-    /// Its number is not new, and there is no kept answer to give: nothing changes.
+    /// Its number is not new, and there is no cached answer to give: nothing changes.
     Ignored,
 }
 
@@ -38,59 +39,59 @@ impl Arrival<'_> {
 pub enum Heard {
     /// The worker waits with it from now on.
     Waits,
-    /// It was served last, and this kept answer is sent once more.
+    /// It was served last, and this cached answer is sent once more.
     Again(Answer),
-    /// Its number is not new, and there is no kept answer to give.
+    /// Its number is not new, and there is no cached answer to give.
     Ignored,
 }
 
-/// What becomes of the request at a desk with this waiting request and this kept answer.
+/// What becomes of the request at a session with this waiting request and this cached answer.
 pub(crate) fn arrival_of<'a>(
     waiting: Option<&Request>,
-    kept: Option<&'a Kept>,
+    cached: Option<&'a CachedReply>,
     request: &Request,
 ) -> Arrival<'a>
     ensures { arrival_view result ≡ arrival_at
-        (record { waiting = option_copied waiting.entry; kept = option_copied kept.entry }) request.now }
+        (record { waiting = option_copied waiting.entry; cached = option_copied cached.entry }) request.now }
 {
-    if newest(waiting, kept) < request.number {
+    if newest(waiting, cached) < request.number {
         return Arrival::Waits;
     }
-    match kept_answer(waiting, kept, request) {
+    match cached_answer(waiting, cached, request) {
         Some(answer) => Arrival::Again(answer),
         None => Arrival::Ignored,
     }
 }
 
 /// The greatest number that was heard of the worker, or 0.
-fn newest(waiting: Option<&Request>, kept: Option<&Kept>) -> u64
+fn newest(waiting: Option<&Request>, cached: Option<&CachedReply>) -> u64
     ensures { result ≡ max (number_or_0 (option_copied waiting.entry))
-        (number_or_0 (kept_request (option_copied kept.entry))) }
+        (number_or_0 (cached_request (option_copied cached.entry))) }
 {
     let waiting = match waiting {
         Some(request) => request.number,
         None => 0,
     };
-    let kept = match kept {
-        Some(kept) => kept.request.number,
+    let cached = match cached {
+        Some(cached) => cached.request.number,
         None => 0,
     };
-    waiting.max(kept)
+    waiting.max(cached)
 }
 
 /// What was answered to this request, where it is the one kept and the worker does not wait.
-fn kept_answer<'a>(
+fn cached_answer<'a>(
     waiting: Option<&Request>,
-    kept: Option<&'a Kept>,
+    cached: Option<&'a CachedReply>,
     request: &Request,
 ) -> Option<&'a Answer>
     ensures { option_copied result ≡ answer_unless_waiting (option_copied waiting.entry)
-        (option_copied kept.entry) request.now }
+        (option_copied cached.entry) request.now }
 {
-    match (waiting, kept) {
-        (None, Some(kept)) => {
-            if kept.request.is_same(request) {
-                Some(&kept.answer)
+    match (waiting, cached) {
+        (None, Some(cached)) => {
+            if cached.request.is_same(request) {
+                Some(&cached.answer)
             } else {
                 None
             }

@@ -1,4 +1,5 @@
 //! Why a request is not served.
+//! Cited by shard.rt; kt_node.
 
 use std::alloc::AllocError;
 use thiserror::Error;

@@ -4,28 +4,28 @@
 //!   (`Shard::serve`, clause `step`). A request waits once, and is answered again once it was served (`Shard::hear`,
 //!   clause `comes_of_it`).
 //! - Stands on: kt_tuple, kt_space; of the kit: thiserror
-//! - Used by: kt_ckpt, kt_lines, kt_node, kt_world, kt_resume, kt_refinement, kt_core, kt_stage, kt_run
-//! - Begin in: `desk.rt`, a worker's slot (`Desk`) at the shard, then `arrival.rt` for what hearing does and
+//! - Used by: kt_ckpt, kt_logs, kt_state, kt_node, kt_model, kt_resume, kt_refinement, kt_core, kt_stage, kt_run
+//! - Begin in: `session.rt`, a worker's session (`Session`) at the shard, then `arrival.rt` for what hearing does and
 //!   `service.rt` for what serving does. `parts.rt` puts them together, and `shard.rt` shares them.
 #![tactic(auto)]
 
 mod arrival;
-mod desk;
 mod error;
 mod laws;
 mod parts;
 mod request;
 mod service;
+mod session;
 mod shard;
 
 pub use arrival::{Arrival, Heard};
-pub use desk::Desk;
 pub use error::ServeError;
 pub use laws::{
     a_served_request_is_answered_again, a_shard_is_its_parts, a_table_reads_what_was_put,
-    other_desks_stay, services_are_steps_of_the_space,
+    other_sessions_stay, services_are_steps_of_the_space,
 };
-pub use parts::DESKS;
-pub use request::{Kept, Request};
+pub use parts::SESSIONS;
+pub use request::{CachedReply, Request};
 pub use service::{Choice, Prepared, Reply};
+pub use session::Session;
 pub use shard::Shard;

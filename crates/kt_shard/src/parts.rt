@@ -1,30 +1,31 @@
-//! What a shard has: its tuples, and a desk for each worker.
+//! What a shard has: its tuples, and a session for each worker.
+//! Cited by shard.rt; kt_core, kt_resume, kt_state.
 
 ghost use Rattle.std.specs.Prelude.{◌≡◌, ◌<◌, length, replicate, IsTrue, IfOk};
-ghost use Rattle.kt_shard.specs.Limits.{desks};
-ghost use Rattle.kt_shard.specs.Desk.{empty_desk};
+ghost use Rattle.kt_shard.specs.Limits.{sessions};
+ghost use Rattle.kt_shard.specs.Session.{empty_session};
 ghost use Rattle.kt_shard.specs.Shard.{empty_shard};
 ghost use Rattle.kt_shard.specs.Arrival.{waiting_shard};
 ghost use Rattle.kt_shard.specs.Service.{served, left_by};
-ghost use Rattle.kt_shard.specs.inner.Puts.{put_of};
-ghost use Rattle.kt_shard.specs.inner.Sharing.{state_in};
+ghost use Rattle.kt_shard.specs.auxiliary.Puts.{put_of};
+ghost use Rattle.kt_shard.specs.auxiliary.Sharing.{state_in};
 
-use crate::desk::Desk;
-use crate::request::{Kept, Request};
+use crate::request::{CachedReply, Request};
 use crate::service::Prepared;
+use crate::session::Session;
 use kt_space::Bag;
 use kt_tuple::{MAX_WORKERS, Op, Tuple};
 use std::alloc::{AllocError, Global};
 
-/// How many desks a shard has: the numbers from 0 to that of the last worker. A worker's number is the place of its
-/// desk, and workers count from 1.
-pub const DESKS: u8 = MAX_WORKERS + 1;
+/// How many sessions a shard has: the numbers from 0 to that of the last worker. A worker's number is the place of its
+/// session, and workers count from 1.
+pub const SESSIONS: u8 = MAX_WORKERS + 1;
 
 /// The tuples of a shard, and what it remembers of each worker. Shards that are equal can share them.
 #[derive(Debug, Drop)]
 pub(crate) struct Parts {
     pub(crate) bag: Bag,
-    pub(crate) desks: Vec<Desk>,
+    pub(crate) sessions: Vec<Session>,
 }
 
 impl Parts {
@@ -34,7 +35,7 @@ impl Parts {
     {
         Ok(Parts {
             bag: Bag::new(alloc),
-            desks: empty_desks(alloc)?,
+            sessions: empty_sessions(alloc)?,
         })
     }
 
@@ -44,41 +45,41 @@ impl Parts {
     {
         Ok(Parts {
             bag: self.bag.copy(alloc)?,
-            desks: copy_desks(alloc, &self.desks)?,
+            sessions: copy_sessions(alloc, &self.sessions)?,
         })
     }
 
-    /// No tuples, and no desks either: what stands in a shard while its parts are moved. It takes no memory.
+    /// No tuples, and no sessions either: what stands in a shard while its parts are moved. It takes no memory.
     pub(crate) fn none(alloc: Global) -> Parts {
         Parts {
             bag: Bag::new(alloc),
-            desks: Vec::new(alloc),
+            sessions: Vec::new(alloc),
         }
     }
 
     /// What gives it memory.
     pub(crate) fn allocator(&self) -> Global {
-        *self.desks.allocator()
+        *self.sessions.allocator()
     }
 
     /// The worker of this number waits with the request from now on.
     pub(crate) fn wait(&mut self, worker: u8, request: Request)
-        requires long { length self.old.desks.items ≡ desks }
-        requires desk { worker < desks }
+        requires long { length self.old.sessions.items ≡ sessions }
+        requires session { worker < sessions }
         ensures state { state_in self.new ≡ waiting_shard (state_in self.old) worker request }
         ensures room { self.new.bag.has_room ≡ self.old.bag.has_room }
-        ensures long { length self.new.desks.items ≡ desks }
+        ensures long { length self.new.sessions.items ≡ sessions }
     {
-        self.desks[usize::from(worker)].wait(request);
+        self.sessions[usize::from(worker)].wait(request);
     }
 
     /// Carries out the service of the worker of this number. There is room for one more tuple, whatever is served.
     pub(crate) fn carry_out(&mut self, worker: u8, prepared: Prepared)
-        requires long { length self.old.desks.items ≡ desks }
-        requires desk { worker < desks }
+        requires long { length self.old.sessions.items ≡ sessions }
+        requires session { worker < sessions }
         requires room { IsTrue self.old.bag.has_room }
         ensures state { state_in self.new ≡ served (state_in self.old) worker prepared }
-        ensures long { length self.new.desks.items ≡ desks }
+        ensures long { length self.new.sessions.items ≡ sessions }
     {
         let Prepared {
             request,
@@ -87,7 +88,7 @@ impl Parts {
             put,
         } = prepared;
         change_bag(&mut self.bag, &request.op, place, put);
-        self.desks[usize::from(worker)].keep(Kept { request, answer });
+        self.sessions[usize::from(worker)].keep(CachedReply { request, answer });
     }
 }
 
@@ -105,26 +106,26 @@ fn change_bag(bag: &mut Bag, op: &Op, place: u64, put: Option<Tuple>)
     }
 }
 
-/// A desk for each number that a worker can have, and for 0.
-fn empty_desks(alloc: Global) -> Result<Vec<Desk>, AllocError>
-    ensures { IfOk result (λ made. made.items ≡ replicate desks empty_desk) }
+/// A session for each number that a worker can have, and for 0.
+fn empty_sessions(alloc: Global) -> Result<Vec<Session>, AllocError>
+    ensures { IfOk result (λ made. made.items ≡ replicate sessions empty_session) }
 {
-    let mut desks = Vec::with_capacity(alloc, usize::from(DESKS))?;
-    for number in 0..DESKS {
-        desks.push(Desk {
+    let mut sessions = Vec::with_capacity(alloc, usize::from(SESSIONS))?;
+    for number in 0..SESSIONS {
+        sessions.push(Session {
             waiting: None,
-            kept: None,
+            cached: None,
         })?;
     }
-    Ok(desks)
+    Ok(sessions)
 }
 
-fn copy_desks(alloc: Global, desks: &[Desk]) -> Result<Vec<Desk>, AllocError>
-    ensures { IfOk result (λ copies. copies.items ≡ desks.now) }
+fn copy_sessions(alloc: Global, sessions: &[Session]) -> Result<Vec<Session>, AllocError>
+    ensures { IfOk result (λ copies. copies.items ≡ sessions.now) }
 {
-    let mut copies = Vec::with_capacity(alloc, desks.len())?;
-    for desk in desks {
-        copies.push(desk.copy(alloc)?)?;
+    let mut copies = Vec::with_capacity(alloc, sessions.len())?;
+    for session in sessions {
+        copies.push(session.copy(alloc)?)?;
     }
     Ok(copies)
 }

@@ -1,12 +1,13 @@
 //! Requests of workers, and the answers that are kept of them.
+//! Cited by arrival.rt, parts.rt, service.rt, session.rt, shard.rt; kt_ckpt, kt_node, kt_resume, kt_state.
 
 ghost use Rattle.std.specs.Prelude.{◌≡◌, IfOk};
-ghost use Rattle.kt_shard.specs.Desk.{same_request};
+ghost use Rattle.kt_shard.specs.Session.{same_request};
 
 use kt_tuple::{Answer, Op};
 use std::alloc::{AllocError, Global};
 
-/// A request of a worker; whose it is, its desk says.
+/// A request of a worker; whose it is, its session says.
 #[derive(Debug, Drop)]
 pub struct Request {
     /// The number that the worker gave it, counted from 1.
@@ -36,19 +37,19 @@ impl Request {
 
 /// A request that was served, with its answer.
 #[derive(Debug, Drop)]
-pub struct Kept {
+pub struct CachedReply {
     /// The request whole: one is the same only by number and operation.
     pub request: Request,
     /// The answer that was sent when it was served.
     pub answer: Answer,
 }
 
-impl Kept {
+impl CachedReply {
     /// An equal request with an equal answer, with memory of their own.
-    pub fn copy(&self, alloc: Global) -> Result<Kept, AllocError>
+    pub fn copy(&self, alloc: Global) -> Result<CachedReply, AllocError>
         ensures { IfOk result (λ k. k ≡ self.now) }
     {
-        Ok(Kept {
+        Ok(CachedReply {
             request: self.request.copy(alloc)?,
             answer: self.answer.copy(alloc)?,
         })

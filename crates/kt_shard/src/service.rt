@@ -1,4 +1,5 @@
 //! What comes of serving a request.
+//! Cited by parts.rt, shard.rt; kt_node, kt_state.
 
 ghost use Rattle.std.specs.Prelude.{◌≡◌, IfOk, IfSome};
 
@@ -75,7 +76,7 @@ pub struct Prepared {
 impl Model for Prepared {
     ghost use Rattle.std.specs.Prelude.{◌≡◌};
     ghost use Rattle.kt_shard.specs.Service.{Service};
-    ghost use Rattle.kt_shard.specs.inner.Puts.{put_of};
+    ghost use Rattle.kt_shard.specs.auxiliary.Puts.{put_of};
 
     ghost Value = { Service };
 

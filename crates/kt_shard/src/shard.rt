@@ -1,21 +1,22 @@
 //! Shards: what each has, alone or with others that look at it.
+//! Cited by parts.rt; kt_ckpt, kt_core, kt_node, kt_resume, kt_stage, kt_state.
 
 ghost use Rattle.std.specs.Prelude.{◌≡◌, ◌<◌, ◌↔◌, false, length, IsTrue, IsOk, IfOk, IfErr, OnOk, OnErr, OnSome};
 ghost use Rattle.std.specs.Option.{option_copied, option_map};
-ghost use Rattle.kt_shard.specs.Limits.{desks};
-ghost use Rattle.kt_shard.specs.Shard.{empty_shard, desk_of};
+ghost use Rattle.kt_shard.specs.Limits.{sessions};
+ghost use Rattle.kt_shard.specs.Shard.{empty_shard, session_of};
 ghost use Rattle.kt_shard.specs.Arrival.{arrival, arrival_view, heard_view, waiting_shard, heard};
 ghost use Rattle.kt_shard.specs.Service.{service, served, got_or_none, answer_at, Refuses, IsServed};
 ghost use Rattle.kt_shard.specs.Views.{Chooses, reply_view};
-ghost use Rattle.kt_shard.specs.inner.Sharing.{desks_in, standing_of, state_in};
+ghost use Rattle.kt_shard.specs.auxiliary.Sharing.{sessions_in, model_of, state_in};
 ghost use Rattle.kt_shard.specs.declared.shard.Held.TheVariants.{Own};
 
 use crate::arrival::{Arrival, Heard, arrival_of};
-use crate::desk::Desk;
 use crate::error::ServeError;
 use crate::parts::Parts;
-use crate::request::{Kept, Request};
+use crate::request::{CachedReply, Request};
 use crate::service::{Choice, Prepared, Reply};
+use crate::session::Session;
 use kt_space::Bag;
 use kt_tuple::{Op, Tuple};
 use std::alloc::{AllocError, Global};
@@ -41,15 +42,15 @@ pub struct Shard {
 
 impl Model for Shard {
     ghost use Rattle.std.specs.Prelude.{◌≡◌, length};
-    ghost use Rattle.kt_shard.specs.Limits.{desks as desk_count};
-    ghost use Rattle.kt_shard.specs.Standing.{Standing};
-    ghost use Rattle.kt_shard.specs.inner.Sharing.{desks_in, standing_of};
+    ghost use Rattle.kt_shard.specs.Limits.{sessions as session_count};
+    ghost use Rattle.kt_shard.specs.ShardModel.{ShardModel};
+    ghost use Rattle.kt_shard.specs.auxiliary.Sharing.{sessions_in, model_of};
 
-    ghost Value = { Standing };
+    ghost Value = { ShardModel };
 
-    ghost view = { λ s. standing_of s.held };
+    ghost view = { λ s. model_of s.held };
 
-    ghost invariant = { λ s. length (desks_in s.held) ≡ desk_count };
+    ghost invariant = { λ s. length (sessions_in s.held) ≡ session_count };
 }
 
 impl Shard {
@@ -69,15 +70,15 @@ impl Shard {
         Ok(Shard { held })
     }
 
-    /// A shard of these tuples, with a desk for each number that a worker can have, by the number from 0.
-    pub fn from_parts(bag: Bag, by_worker: Vec<Desk>) -> Shard
-        requires { length by_worker.items ≡ desks }
-        ensures state { result.state ≡ record { bag = bag.tuples; desks = by_worker.items } }
+    /// A shard of these tuples, with a session for each number that a worker can have, by the number from 0.
+    pub fn from_parts(bag: Bag, by_worker: Vec<Session>) -> Shard
+        requires { length by_worker.items ≡ sessions }
+        ensures state { result.state ≡ record { bag = bag.tuples; sessions = by_worker.items } }
         ensures room { result.has_room ≡ bag.has_room }
     {
-        let desks = by_worker;
+        let sessions = by_worker;
         Shard {
-            held: Held::Own(Parts { bag, desks }),
+            held: Held::Own(Parts { bag, sessions }),
         }
     }
 
@@ -97,7 +98,7 @@ impl Shard {
     /// What it has, whether others have it too or not.
     fn parts(&self) -> &Parts
         ensures state { state_in result.now ≡ self.now.state }
-        ensures long { length result.now.desks.items ≡ desks }
+        ensures long { length result.now.sessions.items ≡ sessions }
     {
         match &self.held {
             Held::Own(parts) => parts,
@@ -113,26 +114,26 @@ impl Shard {
     }
 
     /// What is remembered of each worker, by the worker's number from 0.
-    pub fn desks(&self) -> &[Desk]
-        ensures desks { result.now ≡ self.now.state.desks }
-        ensures one_for_each { length result.now ≡ desks }
+    pub fn sessions(&self) -> &[Session]
+        ensures sessions { result.now ≡ self.now.state.sessions }
+        ensures one_for_each { length result.now ≡ sessions }
     {
-        &self.parts().desks
+        &self.parts().sessions
     }
 
     /// The request that the worker of this number waits with; `None` where it waits with none.
     pub fn waiting(&self, worker: u8) -> Option<&Request>
-        ensures request { option_copied result ≡ (desk_of self.now.state worker).waiting }
-        ensures desk { OnSome result (worker < desks) }
+        ensures request { option_copied result ≡ (session_of self.now.state worker).waiting }
+        ensures session { OnSome result (worker < sessions) }
     {
-        self.desks().get(usize::from(worker))?.waiting.as_ref()
+        self.sessions().get(usize::from(worker))?.waiting.as_ref()
     }
 
     /// The request of the worker of this number that was served last, and its answer; `None` before the first.
-    pub fn kept(&self, worker: u8) -> Option<&Kept>
-        ensures { option_copied result ≡ (desk_of self.now.state worker).kept }
+    pub fn kept(&self, worker: u8) -> Option<&CachedReply>
+        ensures { option_copied result ≡ (session_of self.now.state worker).cached }
     {
-        self.desks().get(usize::from(worker))?.kept.as_ref()
+        self.sessions().get(usize::from(worker))?.cached.as_ref()
     }
 
     /// What becomes of this request of the worker of this number if it is heard. A new number waits, the request that
@@ -145,7 +146,7 @@ impl Shard {
 
     /// The worker of this number waits with the request from now on. There is room, and so the parts are its own.
     pub fn wait(&mut self, worker: u8, request: Request)
-        requires desk { worker < desks }
+        requires session { worker < sessions }
         requires room { IsTrue self.old.has_room }
         ensures state { self.new.state ≡ waiting_shard self.old.state worker request }
         ensures room { self.new.has_room ≡ self.old.has_room }
@@ -158,7 +159,7 @@ impl Shard {
     /// Hears the request of the worker of this number, at most `MAX_WORKERS`, and says what became of it. Where memory
     /// is wanting nothing changes.
     pub fn hear(&mut self, alloc: Global, worker: u8, request: Request) -> Result<Heard, AllocError>
-        requires { worker < desks }
+        requires { worker < sessions }
         ensures state { OnOk result (self.new.state ≡ heard self.old.state worker request) }
         ensures comes_of_it { IfOk result (λ h. heard_view h ≡ arrival self.old.state worker request) }
         ensures room { IsTrue self.old.has_room → IsTrue self.new.has_room }
@@ -177,7 +178,7 @@ impl Shard {
     /// where the worker does not wait, `NoSuchMatch` where there is no such match.
     pub fn choose(&self, worker: u8, place: u64) -> Result<Choice<'_>, ServeError>
         ensures service { Chooses result (service self.now.state worker place) }
-        ensures desk { OnOk result (worker < desks) }
+        ensures session { OnOk result (worker < sessions) }
     {
         let Some(request) = self.waiting(worker) else {
             return Err(ServeError::NotWaiting);
@@ -232,7 +233,7 @@ impl Shard {
     /// Carries out the service of the worker of this number. There is room for one more tuple, whatever is served, and
     /// so the parts are its own, and no refusal is left.
     pub fn carry_out(&mut self, worker: u8, prepared: Prepared)
-        requires desk { worker < desks }
+        requires session { worker < sessions }
         requires room { IsTrue self.old.has_room }
         ensures { self.new.state ≡ served self.old.state worker prepared }
     {
@@ -243,7 +244,7 @@ impl Shard {
 
     /// Serves the waiting request of the worker of this number with the match of this place, counted from 0
     /// in order of arrival. `NotWaiting` where the worker does not wait, `NoSuchMatch` where there is no such
-    /// match; a refused service changes no tuple and no desk.
+    /// match; a refused service changes no tuple and no session.
     pub fn serve(&mut self, alloc: Global, worker: u8, place: u64) -> Result<(), ServeError>
         ensures served { OnOk result (IfOk (service self.old.state worker place)
             (λ s. self.new.state ≡ served self.old.state worker s)) }
@@ -284,10 +285,10 @@ fn got_or_none(found: Option<&Tuple>, place: u64) -> Option<Reply<'_>>
 
 /// The same parts as ones that others may have too, and a shard that has them.
 fn shared(alloc: Global, held: Held) -> (Held, Result<Shard, AllocError>)
-    requires long { length (desks_in held) ≡ desks }
-    ensures state { (standing_of result.0).state ≡ (standing_of held).state }
-    ensures equal { IfOk result.1 (λ s. s.state ≡ (standing_of held).state) }
-    ensures long { length (desks_in result.0) ≡ desks }
+    requires long { length (sessions_in held) ≡ sessions }
+    ensures state { (model_of result.0).state ≡ (model_of held).state }
+    ensures equal { IfOk result.1 (λ s. s.state ≡ (model_of held).state) }
+    ensures long { length (sessions_in result.0) ≡ sessions }
 {
     let parts = match held {
         Held::Shared(parts) => parts,
@@ -308,12 +309,12 @@ fn shared(alloc: Global, held: Held) -> (Held, Result<Shard, AllocError>)
 /// The same parts as ones that no other shard has, with room for one more tuple. They are copied where another shard
 /// has them too.
 fn with_room(held: Held) -> (Held, Result<(), AllocError>)
-    requires long { length (desks_in held) ≡ desks }
-    ensures state { (standing_of result.0).state ≡ (standing_of held).state }
-    ensures room { OnOk result.1 (IsTrue (standing_of result.0).has_room) }
-    ensures unchanged { OnErr result.1 (standing_of result.0 ≡ standing_of held) }
-    ensures none { OnErr result.1 ((standing_of held).has_room ≡ false) }
-    ensures long { length (desks_in result.0) ≡ desks }
+    requires long { length (sessions_in held) ≡ sessions }
+    ensures state { (model_of result.0).state ≡ (model_of held).state }
+    ensures room { OnOk result.1 (IsTrue (model_of result.0).has_room) }
+    ensures unchanged { OnErr result.1 (model_of result.0 ≡ model_of held) }
+    ensures none { OnErr result.1 ((model_of held).has_room ≡ false) }
+    ensures long { length (sessions_in result.0) ≡ sessions }
 {
     match held {
         Held::Own(own) => own_with_room(own),
@@ -328,11 +329,11 @@ fn with_room(held: Held) -> (Held, Result<(), AllocError>)
 }
 
 fn own_with_room(own: Parts) -> (Held, Result<(), AllocError>)
-    ensures state { (standing_of result.0).state ≡ state_in own }
-    ensures room { OnOk result.1 (IsTrue (standing_of result.0).has_room) }
-    ensures unchanged { OnErr result.1 (standing_of result.0 ≡ standing_of (Own own)) }
+    ensures state { (model_of result.0).state ≡ state_in own }
+    ensures room { OnOk result.1 (IsTrue (model_of result.0).has_room) }
+    ensures unchanged { OnErr result.1 (model_of result.0 ≡ model_of (Own own)) }
     ensures none { OnErr result.1 (own.bag.has_room ≡ false) }
-    ensures desks { desks_in result.0 ≡ own.desks.items }
+    ensures sessions { sessions_in result.0 ≡ own.sessions.items }
 {
     let mut own = own;
     let made = own.bag.reserve();

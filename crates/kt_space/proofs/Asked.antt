@@ -1,4 +1,5 @@
 -- What the tuples of a key have to do with a template.
+-- Cited by Searched, `Search::new`.
 use Rattle.std.proofs.Common.{◌≡◌, ℕ, zero, suc, Bool, true, false, nat_eq, List, [], ◌∷◌, Option, None, Some}
 use Rattle.std.proofs.Common.{refl, sym, ap, subst, ◌∙◌, is_some}
 use Rattle.std.specs.List.{slice_get}
@@ -15,10 +16,10 @@ use Rattle.kt_tuple.specs.Matching.{matches}
 use Rattle.kt_tuple.specs.Signature.{kinds_of, kinds_of_places, signature_of}
 use Rattle.kt_tuple.proofs.Shared.{Matches-signature}
 use Rattle.kt_space.specs.declared.key.Key.{Key}
-use Rattle.kt_space.specs.inner.Chaining.{Has}
-use Rattle.kt_space.specs.inner.Grouping.{kinds_key, first_key, template_key, first_actual}
+use Rattle.kt_space.specs.auxiliary.Chaining.{Has}
+use Rattle.kt_space.specs.auxiliary.Grouping.{kinds_key, first_key, template_key, first_actual}
 use Rattle.kt_space.specs.Picking.{begins_alike, could_match}
-use Rattle.kt_space.specs.inner.Slots.{IsAsked, keyed}
+use Rattle.kt_space.specs.auxiliary.Slots.{IsAsked, keyed}
 use Rattle.kt_space.proofs.Matched.{Matches-from_test}
 
 keyed_has : (key : Tuple → Key) (slots : List (Option Tuple)) (m : ℕ) (u : Tuple) → slice_get slots m ≡ Some (Some u) → Has (keyed key slots) m (key u)

@@ -1,4 +1,6 @@
 -- The slots of a bag and its index, after a tuple more, without one, and moved together.
+-- Cited by `Bag::count_matches`, `Bag::get`, `Bag::nth_match_counted`, `Bag::put_reserved`, `Bag::take_nth`,
+--   `Bag::tidy`.
 use Rattle.std.proofs.Common.{◌≡◌, ℕ, suc, ◌+◌, ◌-◌, ◌≤◌, List, [], ◌∷◌, ◌++◌, length, map, filter, set, is_some, Option, None, Some}
 use Rattle.std.proofs.Common.{refl, sym, ap, subst, ◌∙◌, arith}
 use Rattle.std.specs.List.{slice_get}
@@ -8,9 +10,9 @@ use Rattle.kt_tuple.specs.declared.tuple.Tuple.{Tuple}
 use Rattle.kt_tuple.specs.declared.template.Template.{Template}
 use Rattle.kt_tuple.specs.Matching.{matches}
 use Rattle.kt_space.specs.declared.key.Key.{Key}
-use Rattle.kt_space.specs.inner.Grouping.{kinds_key, first_key}
+use Rattle.kt_space.specs.auxiliary.Grouping.{kinds_key, first_key}
 use Rattle.kt_space.specs.Picking.{could_match, matching, without_match, up_to_match}
-use Rattle.kt_space.specs.inner.Slots.{IsFound, IsIndexed, filled, keyed, passing, through_place}
+use Rattle.kt_space.specs.auxiliary.Slots.{IsFound, IsIndexed, filled, keyed, passing, through_place}
 use Rattle.kt_space.proofs.Beside.{length-more}
 use Rattle.kt_space.proofs.Filled.{filled_pushed, keyed_pushed, keyed_without, length_without, found_match, found_up_to}
 use Rattle.kt_space.proofs.Filled.{filled_filled, keyed_filled, all_filled}

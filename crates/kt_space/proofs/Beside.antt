@@ -1,8 +1,9 @@
 -- What stands beside a place, and what becomes of it where a place is put behind all others, and where one is taken out.
+-- Cited by Bags, Linked, Numbered, Passing, Rechained, Stays, Tables; kt_history.
 use Rattle.std.proofs.Common.{◌≡◌, ◌≢◌, ℕ, zero, suc, ◌<◌, List, [], ◌∷◌, ◌++◌, length, set, Option, None, Some, refl, sym, ap, ◌∙◌, arith, ◌⊎◌, inl, inr}
 use Rattle.std.specs.List.{slice_get}
 use Rattle.std.proofs.lemmas.Option.{none-some, same_Some}
-use Rattle.kt_space.specs.inner.Chaining.{Has, IsAfter, IsApart, Beside}
+use Rattle.kt_space.specs.auxiliary.Chaining.{Has, IsAfter, IsApart, Beside}
 
 -- reading a list with one item more, or one other item
 pub length-more : {A : Type 0} (xs : List A) (y : A) → length (xs ++ y ∷ []) ≡ suc (length xs)

@@ -1,4 +1,6 @@
 -- The tuples of slots, from the place of one of them.
+-- Cited by Bags, `Bag::put_reserved`, `Bag::take_nth`, `Index::of`, `bag::copy_of`, `bag::nth_tuple`,
+--   `bag::tuples_of`.
 use Rattle.std.proofs.Common.{◌≡◌, ℕ, zero, suc, ◌≤◌, List, [], ◌∷◌, ◌++◌, length, map, take, remove, set, Option, None, Some}
 use Rattle.std.proofs.Common.{refl, sym, ap, ◌∙◌, arith}
 use Rattle.std.specs.List.{slice_get}
@@ -7,7 +9,7 @@ use Rattle.kt_tuple.specs.declared.tuple.Tuple.{Tuple}
 use Rattle.kt_tuple.specs.declared.template.Template.{Template}
 use Rattle.kt_space.specs.declared.key.Key.{Key}
 use Rattle.kt_space.specs.Picking.{matching, without_match, up_to_match}
-use Rattle.kt_space.specs.inner.Slots.{IsFound, filled, keyed}
+use Rattle.kt_space.specs.auxiliary.Slots.{IsFound, filled, keyed}
 use Rattle.kt_space.proofs.Picked.{match_here, without_here, up_to_here}
 
 pub filled_some : (slots : List (Option Tuple)) (i : ℕ) (u : Tuple) → slice_get slots i ≡ Some (Some u)

@@ -1,11 +1,13 @@
 -- What is read of chains after a write.
+-- Cited by Tables.
 use Rattle.std.proofs.Common.{◌≡◌, ◌≢◌, ℕ, zero, suc, ◌<◌, List, [], ◌∷◌, ◌++◌, length, set, map, Option, None, Some, refl, sym, ap, subst, ◌∙◌, arith}
 use Rattle.std.specs.List.{slice_get}
 use Rattle.std.specs.Option.{option_map_or, option_and_then}
 use Rattle.std.proofs.lemmas.Option.{slice_get_within}
 use Rattle.kt_space.specs.declared.chains.Ends.{Ends}
 use Rattle.kt_space.specs.declared.chains.Link.{Link}
-use Rattle.kt_space.specs.inner.Chaining.{Has, Fits, IsIn, after_of, before_of, changed, groups_of, after_changed, first_changed, before_changed, last_changed}
+use Rattle.kt_space.specs.auxiliary.Chaining.{Has, Fits, IsIn, after_of, before_of, changed, groups_of, after_changed, first_changed, before_changed}
+use Rattle.kt_space.specs.auxiliary.Chaining.{last_changed}
 use Rattle.kt_space.proofs.Beside.{read_before, one_group}
 
 changed_later : {A : Type 0} (f : A → A) (x : A) (xs : List A) (i : ℕ) → changed f (x ∷ xs) (suc i) ≡ x ∷ changed f xs i

@@ -1,4 +1,5 @@
 -- The test of matching is matching.
+-- Cited by Asked, Taken.
 use Rattle.std.proofs.Common.{◌≡◌, true, [], ◌∷◌, refl}
 use Rattle.std.proofs.lemmas.Bool.{false≢true, and_parts, and_from}
 use Rattle.kt_tuple.specs.declared.tuple.Tuple.{Tuple}

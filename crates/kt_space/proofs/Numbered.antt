@@ -1,4 +1,5 @@
 -- The keys of places, from the numbers of their groups.
+-- Cited by `Groups::first`, `Groups::next`, `Groups::push`, `Groups::remove`.
 use Rattle.std.proofs.Common.{◌≡◌, ◌≢◌, ℕ, zero, suc, ◌+◌, ◌<◌, max, Bool, true, false, ◌||◌, if◌then◌else◌, List, [], ◌∷◌, ◌++◌}
 use Rattle.std.proofs.Common.{length, set, Option, None, Some, refl, sym, ap, subst, ◌∙◌, arith, ◌⊎◌, inl, inr, position, get_or}
 use Rattle.std.specs.List.{slice_get, list_any}
@@ -8,8 +9,8 @@ use Rattle.std.proofs.lemmas.Bool.{false≢true}
 use Rattle.std.proofs.lemmas.List.Quantifiers.{position-Some}
 use Rattle.std.proofs.lemmas.Option.{none-some, same_Some, slice_get_within, slice_get-get_or}
 use Rattle.indexmap.specs.IndexSet.{insert_key}
-use Rattle.kt_space.specs.inner.Chaining.{Has, Fits, Beside}
-use Rattle.kt_space.specs.inner.Grouping.{keys_at, AreNumbers}
+use Rattle.kt_space.specs.auxiliary.Chaining.{Has, Fits, Beside}
+use Rattle.kt_space.specs.auxiliary.Grouping.{keys_at, AreNumbers}
 use Rattle.kt_space.proofs.Beside.{read_before, decide}
 use Rattle.kt_space.proofs.Stays.{pushed_has}
 

@@ -1,11 +1,12 @@
 -- How many of the first slots' tuples pass a test, slot by slot.
+-- Cited by Bags, Searched.
 use Rattle.std.proofs.Common.{◌≡◌, ℕ, zero, suc, ◌+◌, ◌<◌, ◌≤◌, Bool, true, false, cond, List, [], ◌∷◌}
 use Rattle.std.proofs.Common.{length, filter, take, Option, None, Some, refl, sym, ap, ◌∙◌, arith, ◌⊎◌, inl, inr}
 use Rattle.std.specs.List.{slice_get}
 use Rattle.std.proofs.lemmas.List.{take_all}
 use Rattle.std.proofs.lemmas.Option.{none-some, same_Some}
 use Rattle.kt_tuple.specs.declared.tuple.Tuple.{Tuple}
-use Rattle.kt_space.specs.inner.Slots.{filled, passing}
+use Rattle.kt_space.specs.auxiliary.Slots.{filled, passing}
 use Rattle.kt_space.proofs.Beside.{decide}
 
 abbrev pub hit : (Tuple → Bool) → Option Tuple → ℕ

@@ -1,7 +1,8 @@
 -- Chains stay chains where a place is taken out, and where one is put behind all others.
+-- Cited by Tables.
 use Rattle.std.proofs.Common.{◌≡◌, ◌≢◌, ℕ, suc, ◌<◌, List, [], ◌∷◌, ◌++◌, length, set, Option, None, Some, sym, ap, subst, arith, ◌⊎◌, inl, inr}
 use Rattle.std.proofs.lemmas.Option.{none-some, same_Some}
-use Rattle.kt_space.specs.inner.Chaining.{Has, Beside, IsIn, AreChains}
+use Rattle.kt_space.specs.auxiliary.Chaining.{Has, Beside, IsIn, AreChains}
 use Rattle.kt_space.proofs.Beside.{one_group, decide, decide_at, one_before, one_after}
 use Rattle.kt_space.proofs.Stays.{kept_has, stays_out, joins, pushed_has, stays_in, comes_last, is_last}
 

@@ -1,4 +1,5 @@
 -- A search goes from one place of the key to the next and passes no match.
+-- Cited by `search::among`.
 use Rattle.std.proofs.Common.{◌≡◌, ◌≢◌, ℕ, suc, ◌+◌, ◌-◌, ◌<◌, ◌≤◌, Bool, true, false, List, length, Option, None, Some}
 use Rattle.std.proofs.Common.{refl, sym, ap, ◌∙◌, arith}
 use Rattle.std.specs.List.{slice_get}
@@ -8,9 +9,9 @@ use Rattle.kt_tuple.specs.declared.tuple.Tuple.{Tuple}
 use Rattle.kt_tuple.specs.declared.template.Template.{Template}
 use Rattle.kt_tuple.specs.Matching.{matches}
 use Rattle.kt_space.specs.declared.key.Key.{Key}
-use Rattle.kt_space.specs.inner.Chaining.{Has, Fits, Beside, IsAfter, IsBefore, IsApart}
+use Rattle.kt_space.specs.auxiliary.Chaining.{Has, Fits, Beside, IsAfter, IsBefore, IsApart}
 use Rattle.kt_space.specs.Picking.{could_match}
-use Rattle.kt_space.specs.inner.Slots.{IsAsked, IsFound, IsPassed, before_place, passing, slot_matches}
+use Rattle.kt_space.specs.auxiliary.Slots.{IsAsked, IsFound, IsPassed, before_place, passing, slot_matches}
 use Rattle.kt_space.proofs.Asked.{could_from_match}
 use Rattle.kt_space.proofs.Passing.{step, gap, at_most, hit_true, hit_false}
 

@@ -1,8 +1,9 @@
 -- Chains with a place put behind all others, and with a place taken out.
+-- Cited by Numbered, Rechained.
 use Rattle.std.proofs.Common.{◌≡◌, ◌≢◌, ℕ, zero, suc, ◌<◌, ◌≤◌, List, [], ◌∷◌, ◌++◌, length, set}
 use Rattle.std.proofs.Common.{Option, None, Some, refl, sym, ap, subst, ◌∙◌, arith, ◌⊎◌, inl, inr}
 use Rattle.std.proofs.lemmas.Option.{none-some, same_Some, slice_get_within}
-use Rattle.kt_space.specs.inner.Chaining.{Has, Fits, IsAfter, IsBefore, IsApart, Beside}
+use Rattle.kt_space.specs.auxiliary.Chaining.{Has, Fits, IsAfter, IsBefore, IsApart, Beside}
 use Rattle.kt_space.proofs.Beside.{read_pushed, read_before, read_other, decide}
 
 -- taking a place out

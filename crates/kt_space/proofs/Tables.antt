@@ -1,4 +1,5 @@
 -- The tables of chains stay so, whatever is written.
+-- Cited by `Chains::push`, `Chains::remove`.
 use Rattle.std.proofs.Common.{◌≡◌, ◌≢◌, ℕ, zero, suc, ◌+◌, ◌<◌, ◌≤◌, max, Bool, true, false, cond, nat_eq, List}
 use Rattle.std.proofs.Common.{[], ◌∷◌, ◌++◌, length, set, Option, None, Some, refl, sym, ap, subst, ◌∙◌, arith, eqb-true}
 use Rattle.std.proofs.lemmas.Bool.{eqb-false}
@@ -7,8 +8,8 @@ use Rattle.std.specs.Option.{option_and_then}
 use Rattle.std.proofs.lemmas.Option.{none-some}
 use Rattle.kt_space.specs.declared.chains.Ends.{Ends}
 use Rattle.kt_space.specs.declared.chains.Link.{Link}
-use Rattle.kt_space.specs.inner.Chaining.{Has, Fits, IsIn, AreChains, after_of, before_of, changed, groups_of, opened}
-use Rattle.kt_space.specs.inner.Chaining.{after_changed, first_changed, before_changed, last_changed}
+use Rattle.kt_space.specs.auxiliary.Chaining.{Has, Fits, IsIn, AreChains, after_of, before_of, changed, groups_of, opened}
+use Rattle.kt_space.specs.auxiliary.Chaining.{after_changed, first_changed, before_changed, last_changed}
 use Rattle.kt_space.proofs.Beside.{length-more, read_before, read_pushed}
 use Rattle.kt_space.proofs.Rechained.{unlinked, pushed, grown}
 use Rattle.kt_space.proofs.Linked.{size_of_groups, next_hit, next_miss, next_back, next_groups, next_count}

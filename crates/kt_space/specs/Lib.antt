@@ -1,3 +1,3 @@
 pub mod Holding
 pub mod Picking
-pub mod inner
+pub mod auxiliary

@@ -1,10 +1,11 @@
 //! The bag: tuples in order of arrival, found by their kinds and their first value.
+//! Cited by kt_core, kt_history, kt_resume, kt_scene, kt_shard, kt_state.
 
 ghost use Rattle.std.specs.Prelude.{◌≡◌, ◌≤◌, ◌↔◌, ◌++◌, ◌∷◌, [], length, filter, slice_get};
 ghost use Rattle.std.specs.Prelude.{IsTrue, IsOk, IfOk, IfErr, OnOk, OnErr, is_some, false};
 ghost use Rattle.std.specs.Option.{option_and_then, option_copied};
 ghost use Rattle.kt_space.specs.Picking.{could_match, matching, up_to_match, without_match};
-ghost use Rattle.kt_space.specs.inner.Slots.{filled};
+ghost use Rattle.kt_space.specs.auxiliary.Slots.{filled};
 
 use crate::index::Index;
 use crate::search::Search;
@@ -33,7 +34,7 @@ pub struct Bag {
 impl Model for Bag {
     ghost use Rattle.std.specs.Prelude.{◌<◌, ◌&&◌, IsTrue, vec_len, vec_capacity};
     ghost use Rattle.kt_space.specs.Holding.{Holding};
-    ghost use Rattle.kt_space.specs.inner.Slots.{IsIndexed, filled};
+    ghost use Rattle.kt_space.specs.auxiliary.Slots.{IsIndexed, filled};
 
     ghost Value = { Holding };
 

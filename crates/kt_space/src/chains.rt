@@ -1,11 +1,12 @@
 //! Places in a row, each in one group or in none, and through each group a chain in rising order of its places.
+//! Cited by groups.rt.
 
 ghost use Rattle.std.specs.Prelude.{◌≡◌, ℕ, ◌+◌, ◌≤◌, ◌<◌, ◌++◌, ◌∷◌, [], max, IsTrue, OnOk};
 ghost use Rattle.std.specs.Prelude.{vec_len, vec_capacity};
 ghost use Rattle.std.specs.List.{slice_get, slice_set as set};
 ghost use Rattle.std.specs.Option.{option_and_then};
-ghost use Rattle.kt_space.specs.inner.Chaining.{Beside, Has, after_of, before_of, changed, opened};
-ghost use Rattle.kt_space.specs.inner.Chaining.{after_changed, before_changed, first_changed, last_changed};
+ghost use Rattle.kt_space.specs.auxiliary.Chaining.{Beside, Has, after_of, before_of, changed, opened};
+ghost use Rattle.kt_space.specs.auxiliary.Chaining.{after_changed, before_changed, first_changed, last_changed};
 
 use std::alloc::{AllocError, Global};
 use std::marker::Model;
@@ -140,7 +141,7 @@ pub(crate) struct Chains {
 
 impl Model for Chains {
     ghost use Rattle.std.specs.Prelude.{◌&&◌, nat_lt, length, vec_len, vec_capacity};
-    ghost use Rattle.kt_space.specs.inner.Chaining.{AreChains, Chained, after_of, before_of, groups_of};
+    ghost use Rattle.kt_space.specs.auxiliary.Chaining.{AreChains, Chained, after_of, before_of, groups_of};
 
     ghost Value = { Chained };
 

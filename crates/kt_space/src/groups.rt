@@ -1,9 +1,10 @@
 //! Places in a row, each with a key or with none, and through the places of one key a chain in rising order.
+//! Cited by index.rt, search.rt.
 
 ghost use Rattle.std.specs.Prelude.{◌≡◌, ◌++◌, ◌∷◌, [], IsTrue, OnOk, Some, None};
 ghost use Rattle.std.specs.List.{slice_set as set};
 ghost use Rattle.kt_space.specs.declared.key.Key.{Key};
-ghost use Rattle.kt_space.specs.inner.Chaining.{Beside, Has};
+ghost use Rattle.kt_space.specs.auxiliary.Chaining.{Beside, Has};
 
 use crate::chains::Chains;
 use crate::key::Key;
@@ -21,7 +22,7 @@ pub(crate) struct Groups {
 impl Model for Groups {
     ghost use Rattle.std.specs.Prelude.{◌&&◌, nat_lt};
     ghost use Rattle.indexmap.specs.IndexSet.{spare};
-    ghost use Rattle.kt_space.specs.inner.Grouping.{AreNumbers, Grouped, keys_at};
+    ghost use Rattle.kt_space.specs.auxiliary.Grouping.{AreNumbers, Grouped, keys_at};
 
     ghost Value = { Grouped };
 

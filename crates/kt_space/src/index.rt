@@ -1,9 +1,10 @@
 //! Where the tuples of a bag stand, by what templates ask for.
+//! Cited by bag.rt, search.rt.
 
 ghost use Rattle.std.specs.Prelude.{◌≡◌, ◌++◌, ◌∷◌, [], ◌&&◌, IsTrue, OnOk, IfOk, Some, None, map};
 ghost use Rattle.std.specs.List.{slice_set as set};
-ghost use Rattle.kt_space.specs.inner.Grouping.{first_key, kinds_key};
-ghost use Rattle.kt_space.specs.inner.Slots.{filled};
+ghost use Rattle.kt_space.specs.auxiliary.Grouping.{first_key, kinds_key};
+ghost use Rattle.kt_space.specs.auxiliary.Slots.{filled};
 
 use crate::groups::Groups;
 use crate::key::Key;

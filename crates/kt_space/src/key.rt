@@ -1,7 +1,8 @@
 //! What tuples are grouped by.
+//! Cited by groups.rt, index.rt, search.rt.
 
 ghost use Rattle.std.specs.Prelude.{◌≡◌, is_some};
-ghost use Rattle.kt_space.specs.inner.Grouping.{first_key, kinds_key, template_key};
+ghost use Rattle.kt_space.specs.auxiliary.Grouping.{first_key, kinds_key, template_key};
 
 use kt_tuple::{Place, Signature, Template, Tuple, Value};
 use std::hash::{Hash, Hasher};
@@ -59,7 +60,7 @@ impl Key {
 impl PartialEq for Key {
     ghost use Rattle.std.specs.Cmp.{partial_equiv_from_equiv};
     ghost use Rattle.kt_tuple.specs.Equality.{equivalence_from_decides};
-    ghost use Rattle.kt_space.specs.inner.Grouping.{key_eq, key_eq_decides};
+    ghost use Rattle.kt_space.specs.auxiliary.Grouping.{key_eq, key_eq_decides};
 
     ghost eq = { key_eq };
 
@@ -72,15 +73,15 @@ impl PartialEq for Key {
 
 impl Eq for Key {
     ghost use Rattle.kt_tuple.specs.Equality.{equivalence_from_decides};
-    ghost use Rattle.kt_space.specs.inner.Grouping.{key_eq, key_eq_decides};
+    ghost use Rattle.kt_space.specs.auxiliary.Grouping.{key_eq, key_eq_decides};
 
     ghost laws = { equivalence_from_decides key_eq key_eq_decides };
 }
 
 impl Hash for Key {
     ghost use Rattle.std.proofs.Common.{ap};
-    ghost use Rattle.kt_space.specs.inner.Grouping.{key_eq_decides};
-    ghost use Rattle.kt_space.specs.inner.Hashing.{key_input};
+    ghost use Rattle.kt_space.specs.auxiliary.Grouping.{key_eq_decides};
+    ghost use Rattle.kt_space.specs.auxiliary.Hashing.{key_input};
 
     ghost hash_input = { key_input };
 

@@ -1,4 +1,5 @@
 //! Laws about what a template picks, each the contract of a function with nothing to do.
+//! Cited by no other file of crates/.
 
 ghost use Rattle.std.specs.Prelude.{◌≡◌, ◌≤◌, ◌↔◌, ◌∷◌, ◌++◌, [], ℕ, List, length, slice_get, Some, None};
 ghost use Rattle.std.specs.Prelude.{Contains, IsPermutation};

@@ -1,11 +1,12 @@
 //! The search for a match.
+//! Cited by bag.rt.
 
 ghost use Rattle.std.specs.Prelude.{◌≡◌, ◌+◌, length, true, Some, IfSome, IfNone};
 ghost use Rattle.std.specs.List.{slice_get};
 ghost use Rattle.kt_tuple.specs.Matching.{matches};
-ghost use Rattle.kt_space.specs.inner.Grouping.{first_key, kinds_key};
+ghost use Rattle.kt_space.specs.auxiliary.Grouping.{first_key, kinds_key};
 ghost use Rattle.kt_space.specs.Picking.{could_match, matching};
-ghost use Rattle.kt_space.specs.inner.Slots.{IsAsked, IsFound, filled, keyed, passing, slot_matches, through_place};
+ghost use Rattle.kt_space.specs.auxiliary.Slots.{IsAsked, IsFound, filled, keyed, passing, slot_matches, through_place};
 
 use crate::groups::Groups;
 use crate::index::Index;

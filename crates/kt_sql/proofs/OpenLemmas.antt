@@ -1,4 +1,5 @@
 -- Why a store is not opened.
+-- Cited by `SqlStore::adopt`.
 use Rattle.std.proofs.Common.{◌≡◌, ◌⊎◌, inl, inr, refl}
 use Rattle.kt_sql.specs.declared.error.SqlOpenError.{SqlOpenError}
 use Rattle.kt_sql.specs.declared.error.SqlOpenError.TheVariants.{Memory, Device, Damaged, Version, Mismatch}

@@ -1,13 +1,14 @@
 -- What a stop leaves of a call that reads first and writes then.
+-- Cited by `SqlStoreCkptStore::begin_restart`.
 use Rattle.std.proofs.Common.{◌≡◌, ◌∙◌, inl, inr, subst}
 use Rattle.std.specs.Prelude.{IsTrue}
 use Rattle.sqlite.specs.Store.{Ghosts}
 use Rattle.sqlite.specs.Held.{state}
 use Rattle.sqlite.specs.State.{HasCleanDisk}
 use Rattle.kt_store.specs.Content.{Content}
-use Rattle.kt_tables.specs.Held.{Tabled, content_of, is_sure}
-use Rattle.kt_tables.specs.Stopped.{StopLeaves}
-use Rattle.kt_tables.specs.Stored.{IsStoreOf}
+use Rattle.kt_sql_tables.specs.Held.{Tabled, content_of, is_sure}
+use Rattle.kt_sql_tables.specs.Stopped.{StopLeaves}
+use Rattle.kt_sql_tables.specs.Stored.{IsStoreOf}
 
 module _ {S : Type 0} (g : Ghosts S) where
   -- a read was answered, so the tables hold what they held and are sure still

@@ -1,5 +1,6 @@
 //! The calls of a store. A write reads the cells of a row, changes them and writes the row whole; it decodes no
-//! checkpoint, and a question about an incarnation or about marks decodes no state (docs/DECISIONS.md#stores).
+//! checkpoint, and a question about an incarnation or about a header decodes no state (docs/DECISIONS.md#stores).
+//! Cited by whoever calls the trait `CkptStore`.
 
 ghost use Rattle.std.specs.Prelude.{◌≡◌, ◌⊎◌, ◌+◌, None, Some, false, IsTrue, IsErrOf, OnOk, OnErr};
 ghost use Rattle.kt_store.specs.declared.rows.Verdict.TheVariants as verdicts;
@@ -7,17 +8,17 @@ ghost use Rattle.kt_store.specs.Content.{HasVerdict, greatest, next_instance, ro
 ghost use Rattle.kt_store.specs.Changes.{bumped, check_begun, decided, discarded};
 ghost use Rattle.kt_store.specs.Changes.{promoted, restart_begun, tentative_put};
 ghost use Rattle.kt_store.specs.Calls.{HasCause};
-ghost use Rattle.kt_tables.specs.Held.{content_of, is_sound, is_sure};
-ghost use Rattle.kt_tables.specs.Stopped.{StopLeaves};
-ghost use Rattle.kt_tables.specs.inner.Lasting.{failures};
+ghost use Rattle.kt_sql_tables.specs.Held.{content_of, is_sound, is_sure};
+ghost use Rattle.kt_sql_tables.specs.Stopped.{StopLeaves};
+ghost use Rattle.kt_sql_tables.specs.auxiliary.Lasting.{failures};
 ghost use Rattle.sqlite.specs.Held.{state};
 
 use crate::store::SqlStore;
-use kt_ckpt::{Ckpt, Marks};
+use kt_ckpt::{Ckpt, CkptHeader};
+use kt_sql_tables::{bumped, discarded, permanent_in, promoted, tentative_in};
 use kt_store::{
-    CkptStore, GREATEST, Posted, Purpose, StoreError, Tentative, TentativeMarks, Verdict,
+    CkptStore, GREATEST, InstanceRow, Purpose, StoreError, Tentative, TentativeHeader, Verdict,
 };
-use kt_tables::{bumped, discarded, permanent_in, promoted, tentative_in};
 use kt_tuple::NodeId;
 use sqlite::Alter;
 use std::alloc::Global;
@@ -53,32 +54,41 @@ impl<S: Alter> CkptStore for SqlStore<S> {
         Ok(tentative_in(self.row_of(node)?))
     }
 
-    fn permanent_marks(
+    fn permanent_header(
         &mut self,
         alloc: Global,
         node: NodeId,
-    ) -> Result<Option<Marks>, StoreError> {
-        self.permanent_marks_of(alloc, node)
+    ) -> Result<Option<CkptHeader>, StoreError> {
+        self.permanent_header_of(alloc, node)
     }
 
-    fn tentative_marks(
+    fn tentative_header(
         &mut self,
         alloc: Global,
         node: NodeId,
-    ) -> Result<Option<TentativeMarks>, StoreError> {
-        self.tentative_marks_of(alloc, node)
+    ) -> Result<Option<TentativeHeader>, StoreError> {
+        self.tentative_header_of(alloc, node)
     }
 
     fn verdict(&mut self, instance: u64) -> Result<Option<Verdict>, StoreError> {
-        Ok(self.find_posted(instance)?.map(|posted| posted.verdict))
+        Ok(
+            self.find_instance(instance)?
+                .map(|instance_row| instance_row.verdict),
+        )
     }
 
     fn initiator(&mut self, instance: u64) -> Result<Option<NodeId>, StoreError> {
-        Ok(self.find_posted(instance)?.map(|posted| posted.initiator))
+        Ok(
+            self.find_instance(instance)?
+                .map(|instance_row| instance_row.initiator),
+        )
     }
 
     fn open_of(&mut self, node: NodeId) -> Result<Option<u64>, StoreError> {
-        Ok(self.find_open(node)?.map(|posted| posted.instance))
+        Ok(
+            self.find_open(node)?
+                .map(|instance_row| instance_row.instance),
+        )
     }
 
     fn next_instance(&mut self) -> Result<u64, StoreError> {
@@ -86,7 +96,7 @@ impl<S: Alter> CkptStore for SqlStore<S> {
     }
 
     fn is_fresh(&mut self) -> Result<bool, StoreError> {
-        Ok(self.has_no_node()? && self.has_no_posted()?)
+        Ok(self.has_no_node()? && self.has_no_instance_row()?)
     }
 
     fn nodes(&mut self, alloc: Global) -> Result<Vec<NodeId>, StoreError> {
@@ -116,7 +126,7 @@ impl<S: Alter> CkptStore for SqlStore<S> {
             return Err(StoreError::Full);
         }
         let cells = self.cells_with(node, last + 1, ckpt)?;
-        let check = Posted {
+        let check = InstanceRow {
             instance: last + 1,
             initiator: node,
             purpose: Purpose::Check,
@@ -207,7 +217,7 @@ impl<S: Alter> CkptStore for SqlStore<S> {
         let Some(cells) = bumped(self.cells_of(node)?) else {
             return Err(StoreError::Full);
         };
-        let rollback = Posted {
+        let rollback = InstanceRow {
             instance: last + 1,
             initiator: node,
             purpose: Purpose::Rollback,
@@ -253,10 +263,10 @@ impl<S: Alter> CkptStore for SqlStore<S> {
         ensures stop { StopLeaves S.Store self.old.tables self.new.tables
             (decided instance yes (content_of S.Store self.old.tables)) }
     {
-        match self.find_posted(instance)? {
-            Some(mut posted) => {
-                posted.verdict = Verdict::of(yes);
-                self.put_posted(posted)
+        match self.find_instance(instance)? {
+            Some(mut instance_row) => {
+                instance_row.verdict = Verdict::of(yes);
+                self.put_instance_row(instance_row)
             }
             // Not met while the store is honest: who calls `decide` sees to it that the instance is open.
             None => Ok(()),

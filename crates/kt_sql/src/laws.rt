@@ -1,4 +1,5 @@
 //! A law of stores in SQL.
+//! Cited by no other file of crates/.
 
 ghost use Rattle.kt_store.specs.Calls.{NeverFails};
 

@@ -5,7 +5,7 @@
 //!   its device failed and how often memory was refused (clause `cause` of each call). A connection that was shut is no
 //!   damage (clause `intact`). A stop inside a write leaves the content before it or after it (clause `stop`), and over
 //!   that the next opening gives a store of just that content (`SqlStore::adopt`, clause `reopened`).
-//! - Stands on: kt_tuple, kt_ckpt, kt_store, kt_tables; of the kit: sqlite, sqlite_std_file, sqlite_trees,
+//! - Stands on: kt_tuple, kt_ckpt, kt_store, kt_sql_tables; of the kit: sqlite, sqlite_std_file, sqlite_trees,
 //!   thiserror
 //! - Used by: linda_kt
 //! - Begin in: `open.rt` for how a store is opened and `migrating.rt` for how one of version 1 is carried over, then

@@ -1,19 +1,20 @@
 //! How a store of version 1 is carried over.
+//! Cited by linda_kt.
 
 ghost use Rattle.std.specs.Prelude.{◌≡◌, ◌⊎◌, false, codes, Err, IfOk, IfErr, IsTrue};
 ghost use Rattle.sqlite.specs.Held.{state};
 ghost use Rattle.sqlite.specs.State.{HasCleanDisk};
 ghost use Rattle.sqlite.specs.Tree.{Trees};
 ghost use Rattle.kt_store.specs.Calls.{nothing_counted};
-ghost use Rattle.kt_tables.specs.Held.{content_of, is_sure};
-ghost use Rattle.kt_tables.specs.Old.{AreNewOf, IsOldOf};
-ghost use Rattle.kt_tables.specs.Opened.{IsThisVersion};
+ghost use Rattle.kt_sql_tables.specs.Held.{content_of, is_sure};
+ghost use Rattle.kt_sql_tables.specs.Old.{AreNewOf, IsOldOf};
+ghost use Rattle.kt_sql_tables.specs.Opened.{IsThisVersion};
 
 use crate::error::SqlOpenError;
 use crate::open::file_connection;
 use crate::store::SqlStore;
+use kt_sql_tables::carried;
 use kt_store::{MemStore, StoreError};
-use kt_tables::carried;
 use sqlite::{Alter, Connection, File, FileStore};
 use std::alloc::Global;
 

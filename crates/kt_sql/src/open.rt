@@ -1,4 +1,5 @@
 //! How a store is opened.
+//! Cited by migrating.rt; linda_kt.
 
 ghost use Rattle.std.specs.Prelude.{◌≡◌, ◌≢◌, ◌↔◌, ◌⊎◌, false, codes, Err, IfOk, IfErr, OnOk, IsTrue};
 ghost use Rattle.std.specs.IoError.{error_kind};
@@ -9,15 +10,15 @@ ghost use Rattle.sqlite.specs.Steps.{over_memory};
 ghost use Rattle.sqlite.specs.Tree.{Trees};
 ghost use Rattle.kt_store.specs.Calls.{nothing_counted};
 ghost use Rattle.kt_store.specs.Content.{Content, empty_content};
-ghost use Rattle.kt_tables.specs.Schema.{kt_schema, no_schema};
-ghost use Rattle.kt_tables.specs.Rows.{AreAsSaid};
-ghost use Rattle.kt_tables.specs.Opened.{HasNoRow, IsOldVersion, IsThisVersion};
-ghost use Rattle.kt_tables.specs.Held.{is_sure, content_of};
-ghost use Rattle.kt_tables.specs.Stored.{IsStoreOf, IsUnused};
+ghost use Rattle.kt_sql_tables.specs.Schema.{kt_schema, no_schema};
+ghost use Rattle.kt_sql_tables.specs.Rows.{AreAsSaid};
+ghost use Rattle.kt_sql_tables.specs.Opened.{HasNoRow, IsOldVersion, IsThisVersion};
+ghost use Rattle.kt_sql_tables.specs.Held.{is_sure, content_of};
+ghost use Rattle.kt_sql_tables.specs.Stored.{IsStoreOf, IsUnused};
 
 use crate::error::SqlOpenError;
 use crate::store::SqlStore;
-use kt_tables::{ReadyError, readied};
+use kt_sql_tables::{ReadyError, readied};
 use sqlite::{Alter, Connection, Error, ErrorCode, File, FileStore, MemStore, Options, Unknown};
 use sqlite_std_file::OpenError as PathError;
 use std::alloc::Global;

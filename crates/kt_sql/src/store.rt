@@ -1,4 +1,5 @@
 //! A store over tables, which counts the faults of its device and the memory that was refused.
+//! Cited by calls.rt, laws.rt, migrating.rt, open.rt; linda_kt.
 
 ghost use Rattle.std.specs.Prelude.{◌≡◌, ◌==◌, ◌&&◌, ◌≤◌, false, IfOk, IfSome, OnOk, OnErr, IsErrOf, IsTrue};
 ghost use Rattle.std.specs.Prelude.{fold, map, max};
@@ -6,23 +7,23 @@ ghost use Rattle.std.specs.List.{find};
 ghost use Rattle.sqlite.specs.Held.{state};
 ghost use Rattle.sqlite.specs.State.{HasCleanDisk};
 ghost use Rattle.kt_tuple.specs.Node.{node_eq};
-ghost use Rattle.kt_store.specs.declared.rows.Posted.{Posted as PostedFields};
+ghost use Rattle.kt_store.specs.declared.rows.InstanceRow.{InstanceRow as InstanceFields};
 ghost use Rattle.kt_store.specs.Verdict.{is_open};
-ghost use Rattle.kt_store.specs.Content.{greatest, is_empty, nodes_in, permanent_marks, row_of, tentative_marks};
+ghost use Rattle.kt_store.specs.Content.{greatest, is_empty, nodes_in, permanent_header, row_of, tentative_header};
 ghost use Rattle.kt_store.specs.Proper.{IsProper};
 ghost use Rattle.kt_store.specs.Changes.{storing, taken};
 ghost use Rattle.kt_store.specs.Calls.{HasCause, nothing_counted};
-ghost use Rattle.kt_tables.specs.Cells.{cells_node, AreSaid};
-ghost use Rattle.kt_tables.specs.Rows.{IsPosted, placing};
-ghost use Rattle.kt_tables.specs.Opened.{IsReady};
-ghost use Rattle.kt_tables.specs.Held.{content_of, is_sound, is_sure};
-ghost use Rattle.kt_tables.specs.Stopped.{Answers, StopKeeps, StopLeaves};
-ghost use Rattle.kt_tables.specs.inner.Lasting.{failures};
+ghost use Rattle.kt_sql_tables.specs.Cells.{cells_node, AreSaid};
+ghost use Rattle.kt_sql_tables.specs.Rows.{IsInstanceRow, placing};
+ghost use Rattle.kt_sql_tables.specs.Opened.{IsReady};
+ghost use Rattle.kt_sql_tables.specs.Held.{content_of, is_sound, is_sure};
+ghost use Rattle.kt_sql_tables.specs.Stopped.{Answers, StopKeeps, StopLeaves};
+ghost use Rattle.kt_sql_tables.specs.auxiliary.Lasting.{failures};
 
 use crate::tally::Tally;
-use kt_ckpt::{Ckpt, Marks};
-use kt_store::{NodeRow, Posted, StoreError, TentativeMarks};
-use kt_tables::{NodeCells, Tables};
+use kt_ckpt::{Ckpt, CkptHeader};
+use kt_sql_tables::{NodeCells, Tables};
+use kt_store::{InstanceRow, NodeRow, StoreError, TentativeHeader};
 use kt_tuple::NodeId;
 use sqlite::{Alter, Connection};
 use std::alloc::Global;
@@ -59,8 +60,8 @@ impl<S: Alter> SqlStore<S> {
         }
     }
 
-    /// Between two calls a stop leaves a store of just what this one holds, while it is honest. There is nothing to do: a
-    /// caller's proof is told so.
+    /// Between two calls a stop leaves a store of just what this one holds, while it is honest. There is nothing to do:
+    /// a caller's proof is told so.
     pub fn rests(&self)
         ensures { StopKeeps S.Store self.now.tables self.now.tables }
     {
@@ -193,13 +194,13 @@ impl<S: Alter> SqlStore<S> {
     }
 
     /// The permanent checkpoint of the node without its state.
-    pub(crate) fn permanent_marks_of(
+    pub(crate) fn permanent_header_of(
         &mut self,
         alloc: Global,
         node: NodeId,
-    ) -> Result<Option<Marks>, StoreError>
+    ) -> Result<Option<CkptHeader>, StoreError>
         ensures value { IsTrue (is_sure S.Store self.new.tables)
-            → IfOk result (λ m. m ≡ permanent_marks (content_of S.Store self.old.tables) node) }
+            → IfOk result (λ m. m ≡ permanent_header (content_of S.Store self.old.tables) node) }
         ensures same { IsTrue (is_sure S.Store self.new.tables)
             → content_of S.Store self.new.tables ≡ content_of S.Store self.old.tables }
         ensures honest { IsTrue (is_sure S.Store self.new.tables) → IsTrue (is_sure S.Store self.old.tables) }
@@ -208,19 +209,19 @@ impl<S: Alter> SqlStore<S> {
         ensures intact { IsErrOf result StoreError.Damaged → is_sound S.Store self.new.tables ≡ false }
         ensures cause { HasCause self.old.counts self.new.counts (is_sure S.Store self.new.tables) ⊥ result }
     {
-        let answer = self.tables.permanent_marks_of(alloc, node);
+        let answer = self.tables.permanent_header_of(alloc, node);
         self.counts.count(&answer);
         answer
     }
 
     /// The tentative checkpoint of the node with its instance and without its state.
-    pub(crate) fn tentative_marks_of(
+    pub(crate) fn tentative_header_of(
         &mut self,
         alloc: Global,
         node: NodeId,
-    ) -> Result<Option<TentativeMarks>, StoreError>
+    ) -> Result<Option<TentativeHeader>, StoreError>
         ensures value { IsTrue (is_sure S.Store self.new.tables)
-            → IfOk result (λ m. m ≡ tentative_marks (content_of S.Store self.old.tables) node) }
+            → IfOk result (λ m. m ≡ tentative_header (content_of S.Store self.old.tables) node) }
         ensures same { IsTrue (is_sure S.Store self.new.tables)
             → content_of S.Store self.new.tables ≡ content_of S.Store self.old.tables }
         ensures honest { IsTrue (is_sure S.Store self.new.tables) → IsTrue (is_sure S.Store self.old.tables) }
@@ -229,17 +230,17 @@ impl<S: Alter> SqlStore<S> {
         ensures intact { IsErrOf result StoreError.Damaged → is_sound S.Store self.new.tables ≡ false }
         ensures cause { HasCause self.old.counts self.new.counts (is_sure S.Store self.new.tables) ⊥ result }
     {
-        let answer = self.tables.tentative_marks_of(alloc, node);
+        let answer = self.tables.tentative_header_of(alloc, node);
         self.counts.count(&answer);
         answer
     }
 
     /// The row of the instance, where it was begun.
-    pub(crate) fn find_posted(&mut self, instance: u64) -> Result<Option<Posted>, StoreError>
+    pub(crate) fn find_instance(&mut self, instance: u64) -> Result<Option<InstanceRow>, StoreError>
         ensures value { IsTrue (is_sure S.Store self.new.tables)
-            → IfOk result (λ o. o ≡ find (λ (p : PostedFields). p.instance == instance)
+            → IfOk result (λ o. o ≡ find (λ (p : InstanceFields). p.instance == instance)
             (content_of S.Store self.old.tables).board) }
-        ensures found { IfOk result (λ o. IfSome o IsPosted) }
+        ensures found { IfOk result (λ o. IfSome o IsInstanceRow) }
         ensures same { IsTrue (is_sure S.Store self.new.tables)
             → content_of S.Store self.new.tables ≡ content_of S.Store self.old.tables }
         ensures stop { StopKeeps S.Store self.old.tables self.new.tables }
@@ -250,15 +251,15 @@ impl<S: Alter> SqlStore<S> {
         ensures intact { IsErrOf result StoreError.Damaged → is_sound S.Store self.new.tables ≡ false }
         ensures cause { HasCause self.old.counts self.new.counts (is_sure S.Store self.new.tables) ⊥ result }
     {
-        let answer = self.tables.find_posted(instance);
+        let answer = self.tables.find_instance(instance);
         self.counts.count(&answer);
         answer
     }
 
     /// The first instance that the node began and that is open.
-    pub(crate) fn find_open(&mut self, node: NodeId) -> Result<Option<Posted>, StoreError>
+    pub(crate) fn find_open(&mut self, node: NodeId) -> Result<Option<InstanceRow>, StoreError>
         ensures value { IsTrue (is_sure S.Store self.new.tables)
-            → IfOk result (λ o. o ≡ find (λ (p : PostedFields). node_eq p.initiator node && is_open p.verdict)
+            → IfOk result (λ o. o ≡ find (λ (p : InstanceFields). node_eq p.initiator node && is_open p.verdict)
             (content_of S.Store self.old.tables).board) }
         ensures same { IsTrue (is_sure S.Store self.new.tables)
             → content_of S.Store self.new.tables ≡ content_of S.Store self.old.tables }
@@ -276,7 +277,7 @@ impl<S: Alter> SqlStore<S> {
     /// The greatest number of an instance, 0 where there is none.
     pub(crate) fn last_instance(&mut self) -> Result<u64, StoreError>
         ensures value { IsTrue (is_sure S.Store self.new.tables)
-            → IfOk result (λ n. n ≡ fold max 0 (map (λ (p : PostedFields). p.instance)
+            → IfOk result (λ n. n ≡ fold max 0 (map (λ (p : InstanceFields). p.instance)
             (content_of S.Store self.old.tables).board)) }
         ensures within { IfOk result (λ n. n ≤ greatest) }
         ensures same { IsTrue (is_sure S.Store self.new.tables)
@@ -312,7 +313,7 @@ impl<S: Alter> SqlStore<S> {
     }
 
     /// Whether the board has no row.
-    pub(crate) fn has_no_posted(&mut self) -> Result<bool, StoreError>
+    pub(crate) fn has_no_instance_row(&mut self) -> Result<bool, StoreError>
         ensures value { IsTrue (is_sure S.Store self.new.tables)
             → IfOk result (λ b. b ≡ is_empty (content_of S.Store self.old.tables).board) }
         ensures same { IsTrue (is_sure S.Store self.new.tables)
@@ -323,7 +324,7 @@ impl<S: Alter> SqlStore<S> {
         ensures intact { IsErrOf result StoreError.Damaged → is_sound S.Store self.new.tables ≡ false }
         ensures cause { HasCause self.old.counts self.new.counts (is_sure S.Store self.new.tables) ⊥ result }
     {
-        let answer = self.tables.has_no_posted();
+        let answer = self.tables.has_no_instance_row();
         self.counts.count(&answer);
         answer
     }
@@ -352,7 +353,7 @@ impl<S: Alter> SqlStore<S> {
     }
 
     /// Stores the row, in place of the one that the instance has.
-    pub(crate) fn put_posted(&mut self, row: Posted) -> Result<(), StoreError>
+    pub(crate) fn put_instance_row(&mut self, row: InstanceRow) -> Result<(), StoreError>
         requires { 1 ≤ row.instance }
         ensures written { IsTrue (is_sure S.Store self.new.tables)
             → OnOk result (content_of S.Store self.new.tables ≡ placing row (content_of S.Store self.old.tables)) }
@@ -368,22 +369,22 @@ impl<S: Alter> SqlStore<S> {
         ensures intact { IsErrOf result StoreError.Damaged → is_sound S.Store self.new.tables ≡ false }
         ensures cause { HasCause self.old.counts self.new.counts (is_sure S.Store self.new.tables) ⊥ result }
     {
-        let answer = self.tables.put_posted(row);
+        let answer = self.tables.put_instance_row(row);
         self.counts.count(&answer);
         answer
     }
 
     /// Stores both rows in one transaction, or neither.
-    pub(crate) fn put_both(&mut self, cells: NodeCells, posted: Posted) -> Result<(), StoreError>
+    pub(crate) fn put_both(&mut self, cells: NodeCells, row: InstanceRow) -> Result<(), StoreError>
         requires cells { IsTrue (is_sure S.Store self.old.tables) → AreSaid cells }
-        requires instance { 1 ≤ posted.instance }
+        requires instance { 1 ≤ row.instance }
         ensures written { IsTrue (is_sure S.Store self.new.tables)
-            → OnOk result (content_of S.Store self.new.tables ≡ placing posted
+            → OnOk result (content_of S.Store self.new.tables ≡ placing row
             (storing (cells_node cells) (content_of S.Store self.old.tables))) }
         ensures unchanged { IsTrue (is_sure S.Store self.new.tables)
             → OnErr result (content_of S.Store self.new.tables ≡ content_of S.Store self.old.tables) }
         ensures stop { StopLeaves S.Store self.old.tables self.new.tables
-            (placing posted (storing (cells_node cells) (content_of S.Store self.old.tables))) }
+            (placing row (storing (cells_node cells) (content_of S.Store self.old.tables))) }
         ensures clean { HasCleanDisk (state S.Store self.new.tables.conn)
             → HasCleanDisk (state S.Store self.old.tables.conn) }
         ensures honest { IsTrue (is_sure S.Store self.new.tables) → IsTrue (is_sure S.Store self.old.tables) }
@@ -392,7 +393,7 @@ impl<S: Alter> SqlStore<S> {
         ensures intact { IsErrOf result StoreError.Damaged → is_sound S.Store self.new.tables ≡ false }
         ensures cause { HasCause self.old.counts self.new.counts (is_sure S.Store self.new.tables) ⊥ result }
     {
-        let answer = self.tables.put_both(cells, posted);
+        let answer = self.tables.put_both(cells, row);
         self.counts.count(&answer);
         answer
     }

@@ -1,4 +1,5 @@
 //! What a store counts.
+//! Cited by store.rt.
 
 ghost use Rattle.std.specs.Prelude.{◌≡◌};
 ghost use Rattle.kt_store.specs.Calls.{counted, nothing_counted};

@@ -1,4 +1,5 @@
 -- What the policy gives is a step of the node itself, and allowed.
+-- Cited by `policy::next_before_serving`, `policy::next_for`.
 use Rattle.std.proofs.Common.{◌≡◌, suc, ◌+◌, ◌-◌, ◌*◌, length, Bool, true, false, List, [], ◌∷◌, Result, Ok, Err, refl, sym, ap, subst, ◌∙◌}
 use Rattle.std.specs.Prelude.{Option, None, Some, cond, is_some, not, ◌&&◌, ◌||◌, if◌then◌else◌, slice_get, unwrap_or, IfOk, IfSome, IsTrue}
 use Rattle.std.specs.List.{find}
@@ -9,31 +10,31 @@ use Rattle.kt_tuple.specs.declared.node.NodeId.TheVariants as ids
 use Rattle.kt_store.specs.declared.error.StoreError.{StoreError}
 use Rattle.kt_store.specs.declared.store.CkptStore.{Ghosts}
 use Rattle.kt_link.specs.Network.{entry_at}
-use Rattle.kt_node.specs.Node.{Node, Down, mode_of}
-use Rattle.kt_node.specs.Plan.{Planned}
-use Rattle.kt_node.specs.declared.node.Mode.{Mode}
-use Rattle.kt_node.specs.declared.node.Mode.TheVariants as modes
-use Rattle.kt_world.specs.declared.step.Step.{Step}
-use Rattle.kt_world.specs.declared.step.Step.TheVariants.{Issue, Repeat, Deliver, Take, Serve, Check, Decide, Abandon}
-use Rattle.kt_world.specs.declared.step.Step.TheVariants.{Learn, Fail, Restart}
-use Rattle.kt_world.specs.Cast.{Cast, are_neighbours, is_among, is_in_scene, is_node, is_shard, is_worker}
-use Rattle.kt_world.specs.Judge.{is_planned, of_scene}
-use Rattle.kt_world.specs.inner.Ready.{AreNeighbours}
-use Rattle.kt_world.specs.State.{State, link, node, view}
-use Rattle.kt_world.specs.Told.{told}
+use Rattle.kt_state.specs.Node.{Node, Down, mode_of}
+use Rattle.kt_state.specs.Plan.{Planned}
+use Rattle.kt_state.specs.declared.node.Mode.{Mode}
+use Rattle.kt_state.specs.declared.node.Mode.TheVariants as modes
+use Rattle.kt_scenario.specs.declared.step.Step.{Step}
+use Rattle.kt_scenario.specs.declared.step.Step.TheVariants.{Issue, Repeat, Deliver, Take, Serve, Check, Decide, Abandon}
+use Rattle.kt_scenario.specs.declared.step.Step.TheVariants.{Learn, Fail, Restart}
+use Rattle.kt_scenario.specs.Scene.{SceneModel, are_neighbours, is_among, is_in_scene, is_node, is_shard, is_worker}
+use Rattle.kt_model.specs.StepPlan.{is_planned, of_scene}
+use Rattle.kt_model.specs.auxiliary.Ready.{AreNeighbours}
+use Rattle.kt_model.specs.State.{State, link, node, view}
+use Rattle.kt_model.specs.StoreReads.{store_reads}
 use Rattle.kt_link.proofs.Shared.{among-true}
-use Rattle.kt_world.proofs.Shared.{from_ends, to_shard, to_worker}
-use Rattle.kt_world.specs.Step.{owner}
-use Rattle.kt_core.specs.declared.faults.FaultLine.{FaultLine}
+use Rattle.kt_model.proofs.Shared.{from_ends, to_shard, to_worker}
+use Rattle.kt_scenario.specs.Step.{owner}
+use Rattle.kt_scenario.specs.declared.faults.FaultLine.{FaultLine}
 use Rattle.kt_core.specs.Lent.{is_allowed, message_at}
-use Rattle.kt_core.specs.World.{Standing}
+use Rattle.kt_core.specs.World.{WorldModel}
 use Rattle.kt_stage.specs.Asking.{IsAsked}
 use Rattle.kt_stage.specs.declared.policy.Rule.{Rule}
 use Rattle.kt_stage.specs.declared.policy.Rule.TheVariants as rules
 use Rattle.kt_tuple.specs.Node.{all_nodes, all_workers}
 use Rattle.kt_stage.specs.Policy.{by_rule, first_some, got_no, has_sent, if_allowed, is_down, is_mode, is_up, next_step}
 use Rattle.kt_stage.specs.Policy.{before_serving, node_got_no, or_else, policy, serves_with_first, step_if}
-use Rattle.kt_stage.specs.inner.Serving.{next_before_serving}
+use Rattle.kt_stage.specs.auxiliary.Serving.{next_before_serving}
 use Rattle.kt_stage.proofs.Planned.{check-or, delivery-or, fail-or, in-scene, restart-or}
 
 -- ---- the words of the rules
@@ -95,37 +96,37 @@ pub next-own : (s : State) (lines : List FaultLine) (p : NodeId) (x : Step) → 
 next-own s lines p x e = first-of (by_rule s lines p) policy x (owner x ≡ p) (λ rule. own-rule s lines p rule x) e
 
 -- a node that does something stands in the table, and so in the scene
-stands : (s : State) (p : NodeId) (test : Node → Bool) → test Down ≡ false → is_some (node s p) ≡ is_node s.cast p → test (view s p).node ≡ true
-    → is_node s.cast p ≡ true
+stands : (s : State) (p : NodeId) (test : Node → Bool) → test Down ≡ false → is_some (node s p) ≡ is_node s.scene p → test (view s p).node ≡ true
+    → is_node s.scene p ≡ true
 stands s p test down there e = by (node s p) there e
   where
-    by : (n : Option Node) → is_some n ≡ is_node s.cast p → test (unwrap_or n Down) ≡ true → is_node s.cast p ≡ true
+    by : (n : Option Node) → is_some n ≡ is_node s.scene p → test (unwrap_or n Down) ≡ true → is_node s.scene p ≡ true
     by None there e = absurd (let no : false ≡ true = sym down ∙ e in cc)
     by (Some n) there e = sym there
 
 -- only neighbours have a link
-ends-sent : (s : State) (p q : NodeId) → is_some (message_at s q p 0) ≡ true → AreNeighbours s.cast q p
-ends-sent s (ids.Shard r) (ids.Worker w) e = by (is_among (length s.cast.scripts) w && is_among s.cast.shards r) refl e
+ends-sent : (s : State) (p q : NodeId) → is_some (message_at s q p 0) ≡ true → AreNeighbours s.scene q p
+ends-sent s (ids.Shard r) (ids.Worker w) e = by (is_among (length s.scene.scripts) w && is_among s.scene.shards r) refl e
   where
-    by : (b : Bool) → (is_among (length s.cast.scripts) w && is_among s.cast.shards r) ≡ b
-        → is_some (slice_get (entry_at [] s.links (if b then Some (2 * ((w - 1) * s.cast.shards + (r - 1))) else None)) 0) ≡ true
-        → AreNeighbours s.cast (ids.Worker w) (ids.Shard r)
+    by : (b : Bool) → (is_among (length s.scene.scripts) w && is_among s.scene.shards r) ≡ b
+        → is_some (slice_get (entry_at [] s.links (if b then Some (2 * ((w - 1) * s.scene.shards + (r - 1))) else None)) 0) ≡ true
+        → AreNeighbours s.scene (ids.Worker w) (ids.Shard r)
     by true is e =
-        let both = and_parts (is_among (length s.cast.scripts) w) (is_among s.cast.shards r) is in
-        let a = among-true (length s.cast.scripts) w both.0 in
-        let b = among-true s.cast.shards r both.1 in
-        from_ends s.cast (ids.Worker w) (ids.Shard r) (to_shard a.0 a.1 b.0 b.1)
+        let both = and_parts (is_among (length s.scene.scripts) w) (is_among s.scene.shards r) is in
+        let a = among-true (length s.scene.scripts) w both.0 in
+        let b = among-true s.scene.shards r both.1 in
+        from_ends s.scene (ids.Worker w) (ids.Shard r) (to_shard a.0 a.1 b.0 b.1)
     by false is e = absurd cc
-ends-sent s (ids.Worker w) (ids.Shard r) e = by (is_among (length s.cast.scripts) w && is_among s.cast.shards r) refl e
+ends-sent s (ids.Worker w) (ids.Shard r) e = by (is_among (length s.scene.scripts) w && is_among s.scene.shards r) refl e
   where
-    by : (b : Bool) → (is_among (length s.cast.scripts) w && is_among s.cast.shards r) ≡ b
-        → is_some (slice_get (entry_at [] s.links (option_map suc (if b then Some (2 * ((w - 1) * s.cast.shards + (r - 1))) else None))) 0) ≡ true
-        → AreNeighbours s.cast (ids.Shard r) (ids.Worker w)
+    by : (b : Bool) → (is_among (length s.scene.scripts) w && is_among s.scene.shards r) ≡ b
+        → is_some (slice_get (entry_at [] s.links (option_map suc (if b then Some (2 * ((w - 1) * s.scene.shards + (r - 1))) else None))) 0) ≡ true
+        → AreNeighbours s.scene (ids.Shard r) (ids.Worker w)
     by true is e =
-        let both = and_parts (is_among (length s.cast.scripts) w) (is_among s.cast.shards r) is in
-        let a = among-true (length s.cast.scripts) w both.0 in
-        let b = among-true s.cast.shards r both.1 in
-        from_ends s.cast (ids.Shard r) (ids.Worker w) (to_worker a.0 a.1 b.0 b.1)
+        let both = and_parts (is_among (length s.scene.scripts) w) (is_among s.scene.shards r) is in
+        let a = among-true (length s.scene.scripts) w both.0 in
+        let b = among-true s.scene.shards r both.1 in
+        from_ends s.scene (ids.Shard r) (ids.Worker w) (to_worker a.0 a.1 b.0 b.1)
     by false is e = absurd cc
 ends-sent s (ids.Worker v) (ids.Worker w) e = absurd cc
 ends-sent s (ids.Shard q) (ids.Shard r) e = absurd cc
@@ -133,7 +134,7 @@ ends-sent s (ids.Shard q) (ids.Shard r) e = absurd cc
 -- ---- that it is allowed
 
 abbrev IsFound : State → NodeId → Type 0
-IsFound s p = is_some (node s p) ≡ is_node s.cast p
+IsFound s p = is_some (node s p) ≡ is_node s.scene p
 
 allowed-if : (s : State) (more : Bool) (step x : Step) → step_if (is_allowed s step && more) step ≡ Some x → is_allowed s x ≡ true
 allowed-if s more step x e =
@@ -155,20 +156,20 @@ allowed-heard s p x None is e = absurd cc
 allowed-heard s p x (Some q) is e =
     let sent = find-holds (has_sent s p) all_nodes q is in
     ap (is_allowed s) (let here : x ≡ Deliver q p = cc in here)
-    ∙ in-scene (are_neighbours s.cast q p) _ (ends-sent s p q sent) (delivery-or (view s p) (told s (Deliver q p)) q (link s q p) sent)
+    ∙ in-scene (are_neighbours s.scene q p) _ (ends-sent s p q sent) (delivery-or (view s p) (store_reads s (Deliver q p)) q (link s q p) sent)
 
 allowed-fails : (s : State) (p : NodeId) → IsFound s p → is_down s p ≡ false → is_allowed s (Fail p) ≡ true
 allowed-fails s p found e =
-    in-scene (is_node s.cast p) _ (stands s p (λ n. not (is_mode (mode_of n) modes.Down)) refl found (ap not e)) (fail-or (view s p) _ _ _ (view s p).node e)
+    in-scene (is_node s.scene p) _ (stands s p (λ n. not (is_mode (mode_of n) modes.Down)) refl found (ap not e)) (fail-or (view s p) _ _ _ (view s p).node e)
 
 allowed-checks : (s : State) (p : NodeId) → IsFound s p → is_up s p ≡ true → is_allowed s (Check p) ≡ true
 allowed-checks s p found e =
-    in-scene (is_node s.cast p) _ (stands s p (λ n. is_mode (mode_of n) modes.Up) refl found e) (check-or (view s p) _ _ (view s p).node e)
+    in-scene (is_node s.scene p) _ (stands s p (λ n. is_mode (mode_of n) modes.Up) refl found e) (check-or (view s p) _ _ (view s p).node e)
 
 allowed-restart : (s : State) (p : NodeId) → IsFound s p → got_no s p ≡ true → is_allowed s (Restart p) ≡ true
 allowed-restart s p found e =
-    let known = told s (Restart p) in
-    in-scene (is_node s.cast p) _ (stands s p (node_got_no s.content) refl found e)
+    let known = store_reads s (Restart p) in
+    in-scene (is_node s.scene p) _ (stands s p (node_got_no s.content) refl found e)
     (restart-or (view s p) known.stored known.next (is_some known.tentative) known.undecided s.content (view s p).node e)
 
 allowed-rule : (s : State) (lines : List FaultLine) (p : NodeId) → IsFound s p → (rule : Rule) (x : Step) → by_rule s lines p rule ≡ Some x
@@ -192,7 +193,7 @@ allowed-rule s lines p found rules.Asks x e =
 allowed-rule s lines p found rules.Serves x e = first-of (serves_with_first s p) all_workers x (is_allowed s x ≡ true) (λ w. allowed-alone s (Serve p w 0) x) e
 allowed-rule s lines p found rules.GivesUp x e = allowed-if s _ (Abandon p) x e
 
-pub next-allowed : (s : State) (lines : List FaultLine) (p : NodeId) (x : Step) → is_some (node s p) ≡ is_node s.cast p → next_step s lines p ≡ Some x
+pub next-allowed : (s : State) (lines : List FaultLine) (p : NodeId) (x : Step) → is_some (node s p) ≡ is_node s.scene p → next_step s lines p ≡ Some x
     → is_allowed s x ≡ true
 next-allowed s lines p x found e = first-of (by_rule s lines p) policy x (is_allowed s x ≡ true) (λ rule. allowed-rule s lines p found rule x) e
 
@@ -215,28 +216,28 @@ of-shard : (a b : Bool) → b ≡ true → (a || b) ≡ true
 of-shard true b e = refl
 of-shard false b e = e
 
-owner-in-scene : (cast : Cast) (step : Step) → is_in_scene cast step ≡ true → is_node cast (owner step) ≡ true
-owner-in-scene cast (Issue p) e = or_left (is_worker cast p) (is_shard cast p) e
-owner-in-scene cast (Repeat p) e = or_left (is_worker cast p) (is_shard cast p) e
-owner-in-scene cast (Deliver p q) e = hearer (is_worker cast p) (is_shard cast q) (is_shard cast p) (is_worker cast q) e
-owner-in-scene cast (Serve p w place) e = of-shard (is_worker cast p) (is_shard cast p) (and_parts (is_shard cast p) (is_worker cast w) e).0
-owner-in-scene cast (Take p) e = e
-owner-in-scene cast (Check p) e = e
-owner-in-scene cast (Decide p) e = e
-owner-in-scene cast (Abandon p) e = e
-owner-in-scene cast (Learn p) e = e
-owner-in-scene cast (Fail p) e = e
-owner-in-scene cast (Restart p) e = e
+owner-in-scene : (scene : SceneModel) (step : Step) → is_in_scene scene step ≡ true → is_node scene (owner step) ≡ true
+owner-in-scene scene (Issue p) e = or_left (is_worker scene p) (is_shard scene p) e
+owner-in-scene scene (Repeat p) e = or_left (is_worker scene p) (is_shard scene p) e
+owner-in-scene scene (Deliver p q) e = hearer (is_worker scene p) (is_shard scene q) (is_shard scene p) (is_worker scene q) e
+owner-in-scene scene (Serve p w place) e = of-shard (is_worker scene p) (is_shard scene p) (and_parts (is_shard scene p) (is_worker scene w) e).0
+owner-in-scene scene (Take p) e = e
+owner-in-scene scene (Check p) e = e
+owner-in-scene scene (Decide p) e = e
+owner-in-scene scene (Abandon p) e = e
+owner-in-scene scene (Learn p) e = e
+owner-in-scene scene (Fail p) e = e
+owner-in-scene scene (Restart p) e = e
 
-pub next-none : (s : State) (lines : List FaultLine) (p : NodeId) → is_some (node s p) ≡ is_node s.cast p → is_some (node s p) ≡ false
+pub next-none : (s : State) (lines : List FaultLine) (p : NodeId) → is_some (node s p) ≡ is_node s.scene p → is_some (node s p) ≡ false
     → next_step s lines p ≡ None
 next-none s lines p found none = by (next_step s lines p) refl
   where
     by : (o : Option Step) → next_step s lines p ≡ o → next_step s lines p ≡ None
     by None e = e
     by (Some x) e = absurd (
-        let there : is_node s.cast (owner x) ≡ true = owner-in-scene s.cast x (in-there (is_in_scene s.cast x) _ (next-allowed s lines p x found e)) in
-        let off : false ≡ true = sym none ∙ found ∙ ap (is_node s.cast) (sym (next-own s lines p x e)) ∙ there in
+        let there : is_node s.scene (owner x) ≡ true = owner-in-scene s.scene x (in-there (is_in_scene s.scene x) _ (next-allowed s lines p x found e)) in
+        let off : false ≡ true = sym none ∙ found ∙ ap (is_node s.scene) (sym (next-own s lines p x e)) ∙ there in
         cc
         )
 
@@ -248,7 +249,7 @@ given-own s lines p (Ok None) is = tt
 given-own s lines p (Ok (Some x)) is = next-own s lines p x (sym is)
 given-own s lines p (Err e) is = tt
 
-pub given-allowed : (s : State) (lines : List FaultLine) (p : NodeId) (r : Result (Option Step) StoreError) → is_some (node s p) ≡ is_node s.cast p
+pub given-allowed : (s : State) (lines : List FaultLine) (p : NodeId) (r : Result (Option Step) StoreError) → is_some (node s p) ≡ is_node s.scene p
     → IfOk r (λ x. x ≡ next_step s lines p) → IfOk r (λ x. IfSome x (λ step. IsTrue (is_allowed s step)))
 given-allowed s lines p (Ok None) found is = tt
 given-allowed s lines p (Ok (Some x)) found is = next-allowed s lines p x found (sym is)
@@ -260,13 +261,13 @@ mapped : {A B : Type 0} (f : A → B) (o : Option A) → is_some (option_map f o
 mapped f None = refl
 mapped f (Some x) = refl
 
-pub found-by-mode : (s : State) (p : NodeId) (mode : Option Mode) → mode ≡ option_map mode_of (node s p) → is_some mode ≡ is_node s.cast p
-    → is_some (node s p) ≡ is_node s.cast p
+pub found-by-mode : (s : State) (p : NodeId) (mode : Option Mode) → mode ≡ option_map mode_of (node s p) → is_some mode ≡ is_node s.scene p
+    → is_some (node s p) ≡ is_node s.scene p
 found-by-mode s p mode value there = sym (mapped mode_of (node s p)) ∙ sym (ap is_some value) ∙ there
 
-pub asked-nobody : {S : Type 0} {kind : Ghosts S} (w : Standing) (lines : List FaultLine) (p : NodeId) (mode : Option Mode)
+pub asked-nobody : {S : Type 0} {kind : Ghosts S} (w : WorldModel) (lines : List FaultLine) (p : NodeId) (mode : Option Mode)
     → mode ≡ option_map mode_of (node w.state p)
-    → is_some mode ≡ is_node w.state.cast p → mode ≡ None
+    → is_some mode ≡ is_node w.state.scene p → mode ≡ None
     → IsAsked kind w w (λ s x. x ≡ next_step s lines p) (Ok None)
 asked-nobody w lines p mode value there none = record {
   value = λ h.
@@ -284,7 +285,7 @@ asked-nobody w lines p mode value there none = record {
 
 before-rules : (s : State) (lines : List FaultLine) (p : NodeId) (x : Step) → next_before_serving s lines p ≡ Some x
     → first_some (by_rule s lines p) before_serving ≡ Some x
-before-rules s lines p x e = by (is_node s.cast p) e
+before-rules s lines p x e = by (is_node s.scene p) e
   where
     by : (b : Bool) → (if b then first_some (by_rule s lines p) before_serving else None) ≡ Some x
         → first_some (by_rule s lines p) before_serving ≡ Some x
@@ -298,21 +299,21 @@ before-own s lines p (Ok (Some x)) is =
     first-of (by_rule s lines p) before_serving x (owner x ≡ p) (λ rule. own-rule s lines p rule x) (before-rules s lines p x (sym is))
 before-own s lines p (Err e) is = tt
 
-pub before-allowed : (s : State) (lines : List FaultLine) (p : NodeId) (r : Result (Option Step) StoreError) → is_some (node s p) ≡ is_node s.cast p
+pub before-allowed : (s : State) (lines : List FaultLine) (p : NodeId) (r : Result (Option Step) StoreError) → is_some (node s p) ≡ is_node s.scene p
     → IfOk r (λ x. x ≡ next_before_serving s lines p) → IfOk r (λ x. IfSome x (λ step. IsTrue (is_allowed s step)))
 before-allowed s lines p (Ok None) found is = tt
 before-allowed s lines p (Ok (Some x)) found is =
     first-of (by_rule s lines p) before_serving x (is_allowed s x ≡ true) (λ rule. allowed-rule s lines p found rule x) (before-rules s lines p x (sym is))
 before-allowed s lines p (Err e) found is = tt
 
-pub before-there : (s : State) (lines : List FaultLine) (p : NodeId) (r : Result (Option Step) StoreError) → is_node s.cast p ≡ true
+pub before-there : (s : State) (lines : List FaultLine) (p : NodeId) (r : Result (Option Step) StoreError) → is_node s.scene p ≡ true
     → IfOk r (λ x. x ≡ first_some (by_rule s lines p) before_serving) → IfOk r (λ x. x ≡ next_before_serving s lines p)
 before-there s lines p (Ok x) there is =
     is ∙ sym (ap (λ (b : Bool). if b then first_some (by_rule s lines p) before_serving else None) there)
 before-there s lines p (Err e) there is = tt
 
-pub before-nobody : {S : Type 0} {kind : Ghosts S} (w : Standing) (lines : List FaultLine) (p : NodeId) (mode : Option Mode)
-    → is_some mode ≡ is_node w.state.cast p → mode ≡ None
+pub before-nobody : {S : Type 0} {kind : Ghosts S} (w : WorldModel) (lines : List FaultLine) (p : NodeId) (mode : Option Mode)
+    → is_some mode ≡ is_node w.state.scene p → mode ≡ None
     → IsAsked kind w w (λ s x. x ≡ next_before_serving s lines p) (Ok None)
 before-nobody w lines p mode there none = record {
   value = λ h. sym (ap (λ (b : Bool). if b then first_some (by_rule w.state lines p) before_serving else None) (sym there ∙ ap is_some none));
@@ -324,8 +325,8 @@ before-nobody w lines p mode there none = record {
   cause = tt;
 }
 
-pub before-asked : {S : Type 0} {kind : Ghosts S} (old new : Standing) (lines : List FaultLine) (p : NodeId) (rules : List Rule)
-    (r : Result (Option Step) StoreError) → rules ≡ before_serving → is_node old.state.cast p ≡ true
+pub before-asked : {S : Type 0} {kind : Ghosts S} (old new : WorldModel) (lines : List FaultLine) (p : NodeId) (rules : List Rule)
+    (r : Result (Option Step) StoreError) → rules ≡ before_serving → is_node old.state.scene p ≡ true
     → IsAsked kind old new (λ s x. x ≡ first_some (by_rule s lines p) rules) r
     → IsAsked kind old new (λ s x. x ≡ next_before_serving s lines p) r
 before-asked old new lines p rules r same there asked = record {

@@ -1,16 +1,17 @@
 -- One asking after another.
+-- Cited by `policy::first_by`, `settling::next_among`.
 use Rattle.std.proofs.Common.{◌≡◌, List, ◌∷◌, Result, Ok, Err, sym, ap, ◌∙◌}
 use Rattle.std.specs.Prelude.{Option, None, IfOk}
 use Rattle.kt_store.specs.declared.error.StoreError.{StoreError}
-use Rattle.kt_world.specs.State.{State}
+use Rattle.kt_model.specs.State.{State}
 use Rattle.kt_store.specs.Calls.{counted}
 use Rattle.kt_store.specs.declared.store.CkptStore.{Ghosts}
-use Rattle.kt_core.specs.World.{Standing}
+use Rattle.kt_core.specs.World.{WorldModel}
 use Rattle.kt_stage.specs.Asking.{IsAsked}
 use Rattle.kt_stage.specs.Policy.{first_some, or_else}
 
 -- the first of a list gives nothing, and the others this: so it is what the whole list gives
-pub first_later : {A B : Type 0} {S : Type 0} {kind : Ghosts S} (f : State → A → Option B) (xs later : List A) (x : A) (old between new : Standing)
+pub first_later : {A B : Type 0} {S : Type 0} {kind : Ghosts S} (f : State → A → Option B) (xs later : List A) (x : A) (old between new : WorldModel)
     (r : Result (Option B) StoreError)
     → xs ≡ x ∷ later
     → IsAsked kind old between (λ s y. y ≡ f s x) (Ok None) → IsAsked kind between new (λ s y. y ≡ first_some (f s) later) r

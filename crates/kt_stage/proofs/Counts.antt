@@ -1,10 +1,11 @@
 -- What a store counts never falls.
+-- Cited by Making, `LockedJournal::act`.
 use Rattle.std.proofs.Common.{◌≡◌, ◌≤◌, ℕ, Result, Ok, Err, arith, sym, subst}
 use Rattle.kt_store.specs.declared.error.StoreError.{StoreError}
 use Rattle.kt_store.specs.declared.error.StoreError.TheVariants as stores
 use Rattle.kt_store.specs.Calls.{Counts, counted, raised, raised_by}
-use Rattle.kt_world.specs.declared.step.StepError.{StepError}
-use Rattle.kt_world.specs.declared.step.StepError.TheVariants as refusals
+use Rattle.kt_model.specs.declared.error.StepError.{StepError}
+use Rattle.kt_model.specs.declared.error.StepError.TheVariants as refusals
 use Rattle.kt_core.specs.Store.{AreLater}
 use Rattle.kt_core.specs.Stepping.{step_counted}
 

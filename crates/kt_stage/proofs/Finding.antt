@@ -1,9 +1,10 @@
 -- Looking through a list from its front.
+-- Cited by `traffic::is_kept`, `traffic::is_on_link`.
 use Rattle.std.proofs.Common.{◌≡◌, ℕ, zero, suc, ◌+◌, ◌≤◌, Bool, true, false, List, [], ◌∷◌, take, length, slice_get, refl, ap, ◌∙◌, sym, add-one}
 use Rattle.std.specs.Prelude.{◌||◌}
 use Rattle.std.specs.List.{list_any}
 use Rattle.std.proofs.lemmas.List.{take_all}
-use Rattle.kt_stage.specs.inner.Midway.{is_found}
+use Rattle.kt_stage.specs.auxiliary.Midway.{is_found}
 
 no-more : {A : Type 0} (p : A → Bool) (xs : List A) (i : ℕ) → list_any p (take i xs) ≡ false → is_found p (slice_get xs i) ≡ false
     → list_any p (take (suc i) xs) ≡ false

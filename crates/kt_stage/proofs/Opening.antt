@@ -1,9 +1,10 @@
 -- The nodes that a stage is opened with.
+-- Cited by `Stage::open_or_back`, `stage::count_among`.
 use Rattle.std.proofs.Common.{◌≡◌, ℕ, zero, suc, ◌<◌, ◌≤◌, Bool, true, false, cond, ◌||◌, IsTrue, All, List, [], ◌∷◌, filter, get_or, length, refl, arith}
 use Rattle.std.specs.List.{list_any}
 use Rattle.kt_tuple.specs.declared.node.NodeId.{NodeId}
 use Rattle.kt_tuple.specs.Node.{node_eq}
-use Rattle.kt_world.specs.Cast.{Cast}
+use Rattle.kt_scenario.specs.Scene.{SceneModel}
 use Rattle.kt_stage.specs.Order.{has_node, nodes_of}
 use Rattle.kt_tuple.proofs.Shared.{node_eq-refl}
 
@@ -17,8 +18,8 @@ found-at (x ∷ xs) (suc k) d lt = later (node_eq (get_or xs k d) x) (found-at x
     later false e = e
 
 -- each node of a scene is one of them
-pub all-there : (cast : Cast) → All (λ p. IsTrue (has_node cast p)) (nodes_of cast)
-all-there cast k d lt = found-at (nodes_of cast) k d lt
+pub all-there : (scene : SceneModel) → All (λ p. IsTrue (has_node scene p)) (nodes_of scene)
+all-there scene k d lt = found-at (nodes_of scene) k d lt
 
 pub fewer : {A : Type 0} (test : A → Bool) (xs : List A) → length (filter test xs) ≤ length xs
 fewer test [] = omega arith

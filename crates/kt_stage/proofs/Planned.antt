@@ -1,11 +1,12 @@
 -- What the policy's rules ask of a node is enough for its step to be planned. A checkpoint that does not fit is the
 -- store's fault, and does not make a step one that is not allowed.
+-- Cited by Allowed.
 use Rattle.std.proofs.Common.{◌≡◌, ℕ, ◌+◌, Bool, true, false, List, [], ◌∷◌, Result, Ok, Err, refl, ap}
 use Rattle.std.specs.Prelude.{◌&&◌, Option, None, Some, is_some, if◌then◌else◌, slice_get}
 use Rattle.kt_tuple.specs.declared.node.NodeId.{NodeId}
 use Rattle.kt_tuple.specs.declared.node.NodeId.TheVariants as ids
 use Rattle.kt_ckpt.specs.declared.ckpt.Ckpt.{Ckpt}
-use Rattle.kt_ckpt.specs.declared.marks.Marks.{Marks}
+use Rattle.kt_ckpt.specs.declared.header.CkptHeader.{CkptHeader}
 use Rattle.kt_ckpt.specs.declared.state.State.{State as Stored}
 use Rattle.kt_ckpt.specs.declared.state.State.TheVariants as states
 use Rattle.kt_store.specs.declared.rows.Verdict.{Verdict}
@@ -13,31 +14,32 @@ use Rattle.kt_store.specs.declared.rows.Verdict.TheVariants as verdicts
 use Rattle.kt_store.specs.Content.{Content, verdict_of}
 use Rattle.kt_vote.specs.declared.asker.Asker.{Asker}
 use Rattle.kt_vote.specs.Poll.{Poll}
-use Rattle.kt_node.specs.declared.plan.Plan.{Plan}
-use Rattle.kt_node.specs.declared.refusal.Refusal.{Refusal}
-use Rattle.kt_node.specs.declared.refusal.Refusal.TheVariants as reasons
-use Rattle.kt_node.specs.declared.live.Phase.{Phase}
-use Rattle.kt_node.specs.declared.live.Phase.TheVariants as phases
-use Rattle.kt_node.specs.declared.stored.Stored.{Stored as Saved}
-use Rattle.kt_node.specs.Node.{Body, Live, Node, Down, Alive, Role, mode_in, mode_of, poll_in, poll_of}
-use Rattle.kt_node.specs.Plan.{Planned, empty_plan}
-use Rattle.kt_node.specs.declared.message.Message.{Message}
-use Rattle.kt_node.specs.declared.message.Message.TheVariants as messages
+use Rattle.kt_state.specs.declared.plan.Plan.{Plan}
+use Rattle.kt_state.specs.declared.refusal.Refusal.{Refusal}
+use Rattle.kt_state.specs.declared.refusal.Refusal.TheVariants as reasons
+use Rattle.kt_state.specs.declared.live.Phase.{Phase}
+use Rattle.kt_state.specs.declared.live.Phase.TheVariants as phases
+use Rattle.kt_state.specs.declared.stored.Stored.{Stored as Saved}
+use Rattle.kt_state.specs.Node.{Body, Live, Node, Down, Alive, Role, mode_in, mode_of, poll_in, poll_of}
+use Rattle.kt_state.specs.Plan.{Planned, empty_plan}
+use Rattle.kt_state.specs.declared.message.Message.{Message}
+use Rattle.kt_state.specs.declared.message.Message.TheVariants as messages
 use Rattle.kt_node.specs.declared.reaction.Reaction.{Reaction}
 use Rattle.kt_node.specs.declared.reaction.Reaction.TheVariants as reactions
-use Rattle.kt_node.specs.Loading.{load, loaded_by, marks_in}
-use Rattle.kt_node.specs.Stored.{fits}
+use Rattle.kt_node.specs.Loading.{load}
+use Rattle.kt_state.specs.Loading.{loaded_by, header_in}
+use Rattle.kt_state.specs.Stored.{fits}
 use Rattle.kt_node.specs.Learning.{restored, rolling_learns, verdict_to}
 use Rattle.kt_node.specs.Arrivals.{check_fitting, check_plan, check_reaction, is_in, rollback_plan, rollback_reaction, unless_down}
 use Rattle.kt_node.specs.Arrivals.{verdict_by_parent, verdict_in, vote_in}
 use Rattle.kt_node.specs.Deciding.{check_in, check_of}
 use Rattle.kt_node.specs.Failing.{fail_of, restart_after, restart_by, restart_in, restart_of, restarted}
-use Rattle.kt_node.specs.State.{body_at, body_from, if_fits}
+use Rattle.kt_state.specs.State.{body_at, body_from, if_fits}
 use Rattle.kt_node.specs.View.{View}
-use Rattle.kt_node.specs.declared.node.Mode.TheVariants as modes
-use Rattle.kt_world.specs.declared.told.Told.{Told}
-use Rattle.kt_world.specs.Judge.{delivery, hear, is_planned, of_owner, of_scene}
-use Rattle.kt_world.specs.Told.{of_poll}
+use Rattle.kt_state.specs.declared.node.Mode.TheVariants as modes
+use Rattle.kt_model.specs.declared.store_reads.StoreReads.{StoreReads}
+use Rattle.kt_model.specs.StepPlan.{delivery, hear, is_planned, of_owner, of_scene}
+use Rattle.kt_model.specs.StoreReads.{of_poll}
 use Rattle.kt_stage.specs.Policy.{is_begun_no, is_mode, is_no, node_got_no, rolls_after_no}
 
 pub in-scene : (there : Bool) (r : Planned) → there ≡ true → is_planned (of_owner r) ≡ true → is_planned (of_scene there r) ≡ true
@@ -64,7 +66,7 @@ body-fine role n (ids.Shard k) (states.Worker w) = refl
 body-fine role n (ids.Shard k) (states.Shard y) = fits-fine _ _
 
 load-fine : (v : View) (saved : Saved) → Fine (load v saved)
-load-fine v saved = by (fits v.role v.line_len (marks_in saved)) saved.permanent
+load-fine v saved = by (fits v.role v.line_len (header_in saved)) saved.permanent
   where
     loaded : (c : Option Ckpt) (n : ℕ) (r : Result Body Refusal) → Fine r → Fine (loaded_by c n r)
     loaded c n (Ok body) f = tt
@@ -92,8 +94,8 @@ learns-or v saved send true = restored-or v saved send (load v saved) (load-fine
 learns-or v saved send false = refl
 
 -- whatever message comes is heard, or a checkpoint does not fit
-hear-or : (v : View) (t : Told) (from : NodeId) (m : Message) → is_planned (of_owner (hear v t from m)) ≡ true
-hear-or v t from (messages.Post post) = refl
+hear-or : (v : View) (t : StoreReads) (from : NodeId) (m : Message) → is_planned (of_owner (hear v t from m)) ≡ true
+hear-or v t from (messages.App app) = refl
 hear-or v t from (messages.CheckAsk ask) = by v.node
   where
     of : (n : Live) (r : Reaction) → is_planned (of_owner (check_plan v n from ask t.permanent r)) ≡ true
@@ -143,19 +145,19 @@ hear-or v t from (messages.Verdict instance agreed) = by v.node
     by Down = refl
     by (Alive n) = of n.phase
 
-pub delivery-or : (v : View) (t : Told) (from : NodeId) (queue : List Message) → is_some (slice_get queue 0) ≡ true
+pub delivery-or : (v : View) (t : StoreReads) (from : NodeId) (queue : List Message) → is_some (slice_get queue 0) ≡ true
     → is_planned (of_owner (delivery v t from queue)) ≡ true
 delivery-or v t from [] e = absurd cc
 delivery-or v t from (m ∷ later) e = hear-or v t from m
 
 -- ---- who may do it
 
-pub fail-or : (v : View) (verdict : Option Verdict) (permanent tentative : Option Marks) (n : Node) → is_mode (mode_of n) modes.Down ≡ false
+pub fail-or : (v : View) (verdict : Option Verdict) (permanent tentative : Option CkptHeader) (n : Node) → is_mode (mode_of n) modes.Down ≡ false
     → is_planned (of_owner (fail_of v verdict permanent tentative n)) ≡ true
 fail-or v verdict permanent tentative Down e = absurd cc
 fail-or v verdict permanent tentative (Alive n) e = fits-or _ _
 
-pub check-or : (v : View) (next : ℕ) (permanent : Option Marks) (n : Node) → is_mode (mode_of n) modes.Up ≡ true
+pub check-or : (v : View) (next : ℕ) (permanent : Option CkptHeader) (n : Node) → is_mode (mode_of n) modes.Up ≡ true
     → is_planned (of_owner (check_of v next permanent n)) ≡ true
 check-or v next permanent Down e = absurd cc
 check-or v next permanent (Alive n) e = by n.phase e

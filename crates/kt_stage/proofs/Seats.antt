@@ -1,4 +1,5 @@
 -- What the seats of a closed stage keep.
+-- Cited by `Stage::close`, `closing::fits`, `closing::is_matched`.
 use Rattle.std.proofs.Common.{◌≡◌, ℕ, zero, suc, ◌+◌, ◌<◌, ◌≤◌, Bool, true, false, cond, not, ◌||◌, ◌&&◌, ◌↔◌, List, [], ◌∷◌, ◌++◌, take, drop, length, get_or}
 use Rattle.std.proofs.Common.{refl, sym, ap, subst, ◌∙◌, arith}
 use Rattle.std.proofs.Common.{None, Some, All, IsTrue, IsPermutation, filter, flat_map, if◌then◌else◌}
@@ -11,14 +12,14 @@ use Rattle.std.proofs.lemmas.Bool.{and_parts}
 use Rattle.kt_tuple.specs.declared.node.NodeId.{NodeId}
 use Rattle.kt_tuple.specs.Node.{node_eq, node_eq_decides}
 use Rattle.kt_tuple.proofs.Shared.{node_eq-refl}
-use Rattle.kt_world.specs.declared.step.Step.{Step}
-use Rattle.kt_world.specs.Cast.{Cast}
-use Rattle.kt_world.specs.Step.{owner}
+use Rattle.kt_scenario.specs.declared.step.Step.{Step}
+use Rattle.kt_scenario.specs.Scene.{SceneModel}
+use Rattle.kt_scenario.specs.Step.{owner}
 use Rattle.kt_stage.specs.declared.seat.Receipt.{Receipt}
 use Rattle.kt_stage.specs.Closing.{IsMatched, first_missing, full_seat, has_seat, numbered, receipts_in, seats_of}
-use Rattle.kt_stage.specs.inner.Midway.{IsClosed}
+use Rattle.kt_stage.specs.auxiliary.Midway.{IsClosed}
 use Rattle.kt_stage.specs.Journal.{Held, kept_of, receipt, receipts_of}
-use Rattle.kt_stage.specs.inner.Midway.{are_owned}
+use Rattle.kt_stage.specs.auxiliary.Midway.{are_owned}
 use Rattle.kt_stage.specs.Order.{has_node, nodes_of}
 
 -- ---- the seats of one node
@@ -184,32 +185,32 @@ module _ {A B : Type 0} (test : A → Bool) (r : B) (f g : A → List B) (is : (
           (IsPermutation-trans (r ∷ (g x ++ flat_map g xs)) (g x ++ r ∷ flat_map g xs) (g x ++ flat_map f xs) (middle r (g x) (flat_map g xs))
           (IsPermutation-append_right (g x) (r ∷ flat_map g xs) (flat_map f xs) (more found)))
 
-spread : (cast : Cast) (seats : List Held) → ((p : NodeId) → has_node cast p ≡ true → (one : Held) × (seats_of p seats ≡ one ∷ []))
-    → (number : ℕ) (steps : List Step) → are_owned cast steps ≡ true
+spread : (scene : SceneModel) (seats : List Held) → ((p : NodeId) → has_node scene p ≡ true → (one : Held) × (seats_of p seats ≡ one ∷ []))
+    → (number : ℕ) (steps : List Step) → are_owned scene steps ≡ true
     → IsPermutation (numbered number steps) (flat_map (λ seat. receipts_of seat.node number steps) seats)
 unfolding receipts_of
-spread cast seats have number [] owned =
+spread scene seats have number [] owned =
     subst (IsPermutation []) (sym (flat-none (λ seat. receipts_of seat.node number []) seats (λ seat. refl))) (IsPermutation-refl [])
-spread cast seats have number (step ∷ later) owned =
-    let both = and_parts (has_node cast (owner step)) (are_owned cast later) owned in
+spread scene seats have number (step ∷ later) owned =
+    let both = and_parts (has_node scene (owner step)) (are_owned scene later) owned in
     let one = have (owner step) both.0 in
     let r = receipt number step in
     let rest = λ (seat : Held). receipts_of seat.node (number + 1) later in
     IsPermutation-trans (r ∷ numbered (number + 1) later) (r ∷ flat_map rest seats) (flat_map (λ seat. receipts_of seat.node number (step ∷ later)) seats)
-    (IsPermutation-cons r (numbered (number + 1) later) (flat_map rest seats) (spread cast seats have (number + 1) later both.1))
+    (IsPermutation-cons r (numbered (number + 1) later) (flat_map rest seats) (spread scene seats have (number + 1) later both.1))
     (one-more (λ seat. node_eq (owner step) seat.node) r (λ seat. receipts_of seat.node number (step ∷ later)) rest (λ seat. refl) seats one.0 one.1)
 
-pub each-step : (cast : Cast) (steps : List Step) (seats : List Held) → are_owned cast steps ≡ true → IsClosed (nodes_of cast) steps seats
+pub each-step : (scene : SceneModel) (steps : List Step) (seats : List Held) → are_owned scene steps ≡ true → IsClosed (nodes_of scene) steps seats
     → IsPermutation (numbered 1 steps) (receipts_in seats)
-each-step cast steps seats owned closed =
+each-step scene steps seats owned closed =
     subst (IsPermutation (numbered 1 steps)) (sym (flat-same (λ (s : Held). s.receipts) (λ s. receipts_of s.node 1 steps) seats (kept steps seats closed.0)))
-    (spread cast seats have 1 steps owned)
+    (spread scene seats have 1 steps owned)
   where
-    are : All (IsMatched steps seats) (nodes_of cast)
-    are = one-each steps seats (nodes_of cast) closed.0 closed.1
+    are : All (IsMatched steps seats) (nodes_of scene)
+    are = one-each steps seats (nodes_of scene) closed.0 closed.1
 
-    have : (p : NodeId) → has_node cast p ≡ true → (one : Held) × (seats_of p seats ≡ one ∷ [])
-    have p e = (full_seat steps p, of-found (λ (q : NodeId). q) (IsMatched steps seats) p (nodes_of cast) e are)
+    have : (p : NodeId) → has_node scene p ≡ true → (one : Held) × (seats_of p seats ≡ one ∷ [])
+    have p e = (full_seat steps p, of-found (λ (q : NodeId). q) (IsMatched steps seats) p (nodes_of scene) e are)
 
 -- the same of equal lists
 pub closed-of : (nodes : List NodeId) (steps : List Step) (seats : List Held) (others : List NodeId) (more : List Step) (held : List Held) → nodes ≡ others

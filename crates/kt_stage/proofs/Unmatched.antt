@@ -1,4 +1,5 @@
 -- The first node, in node order, that is not matched, where one more seat is looked at.
+-- Cited by `closing::first_unmatched`.
 use Rattle.std.proofs.Common.{◌≡◌, zero, suc, Bool, true, false, ◌||◌, List, ◌∷◌, get_or, All, IsTrue, refl, sym, ap, subst, ◌∙◌, arith}
 use Rattle.std.specs.Prelude.{Option, None, Some, IfSome}
 use Rattle.std.specs.List.{list_any}
@@ -6,7 +7,7 @@ use Rattle.kt_tuple.specs.declared.node.NodeId.{NodeId}
 use Rattle.kt_tuple.specs.declared.node.NodeId.TheVariants.{Worker, Shard}
 use Rattle.kt_tuple.specs.Node.{node_eq, is_before}
 use Rattle.kt_tuple.proofs.Shared.{node_eq-refl}
-use Rattle.kt_world.specs.declared.step.Step.{Step}
+use Rattle.kt_scenario.specs.declared.step.Step.{Step}
 use Rattle.kt_stage.specs.Closing.{IsFirstUnmatched, IsMatched}
 use Rattle.kt_stage.specs.Journal.{Held}
 

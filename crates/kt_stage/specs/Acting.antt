@@ -1,16 +1,17 @@
 -- Why a node does not act.
+-- Cited by Halts, Making, locked_journal.rt, specs/Glancing, stage.rt, waking.rt, `Journal::make`, `RunState::make`.
 use Rattle.std.specs.Prelude.{◌≡◌, ◌≢◌, ◌+◌, ◌++◌, ◌∷◌, [], Bool, length, Result, Ok, Err}
 use Rattle.std.specs.Prelude.{IfOk, IfErr, OnOk, OnErr, IsTrue}
 use Rattle.kt_tuple.specs.declared.node.NodeId.{NodeId}
-use Rattle.kt_world.specs.declared.step.Step.{Step}
-use Rattle.kt_world.specs.declared.step.StepError.{StepError}
-use Rattle.kt_world.specs.declared.step.StepError.TheVariants as refusals
-use Rattle.kt_world.specs.Step.{owner}
-use Rattle.kt_world.specs.State.{State}
-use Rattle.kt_world.specs.Effect.{step_result}
-use Rattle.kt_world.specs.Judge.{planned}
+use Rattle.kt_scenario.specs.declared.step.Step.{Step}
+use Rattle.kt_model.specs.declared.error.StepError.{StepError}
+use Rattle.kt_model.specs.declared.error.StepError.TheVariants as refusals
+use Rattle.kt_scenario.specs.Step.{owner}
+use Rattle.kt_model.specs.State.{State}
+use Rattle.kt_model.specs.Effect.{step_result}
+use Rattle.kt_model.specs.StepPlan.{step_plan}
 use Rattle.kt_core.specs.Stepping.{IsCalledFor, IsCause, Refuses, step_counted}
-use Rattle.kt_core.specs.World.{Standing, beside}
+use Rattle.kt_core.specs.World.{WorldModel, beside}
 use Rattle.kt_store.specs.Calls.{Counts}
 use Rattle.kt_stage.specs.declared.error.ActError.{ActError}
 use Rattle.kt_stage.specs.declared.error.ActError.TheVariants as errors
@@ -57,7 +58,7 @@ pub record IsActed (old new : Journal) (p : NodeId) (step : Step) (result : Resu
   -- refused: for the reason that is due in the world as it was
   pub not_owner : IfErr result (IsOthers p step)
   pub others : owner step ≢ p → result ≡ Err errors.NotOwner
-  pub refusal : IsTrue new.world.is_honest → IfErr result (λ e. RefusesAct e (planned old.world.state step))
+  pub refusal : IsTrue new.world.is_honest → IfErr result (λ e. RefusesAct e (step_plan old.world.state step))
   pub cause : IfErr result (IsActCause new.world.state step new.world.is_honest)
   pub counts : new.world.counts ≡ act_counted result old.world.counts
   pub called : IsTrue new.world.is_honest → IfErr result (IsActCalledFor old.world.state step)
@@ -67,7 +68,7 @@ pub record IsActed (old new : Journal) (p : NodeId) (step : Step) (result : Resu
   pub beside : OnErr result (beside new.world.state ≡ beside old.world.state)
 
 -- so it was, for two journals of the stage that was opened with this: to each its steps lead
-pub record IsActedOn (opening : Standing) (p : NodeId) (step : Step) (result : Result Receipt ActError) : Type 0 where
+pub record IsActedOn (opening : WorldModel) (p : NodeId) (step : Step) (result : Result Receipt ActError) : Type 0 where
   pub old : Journal
   pub new : Journal
   pub replayed : Replays opening old.world old.steps

@@ -1,14 +1,16 @@
 -- What asking a world comes to.
+-- Cited by Allowed, Asked, asking.rt, ending.rt, locked_journal.rt, policy.rt, settling.rt, `policy::first_by`,
+--   `settling::next_among`.
 use Rattle.std.specs.Prelude.{◌≡◌, Result, IfErr, IfOk, IsTrue}
 use Rattle.kt_store.specs.declared.error.StoreError.{StoreError}
 use Rattle.kt_store.specs.Calls.{NeverFails, counted}
 use Rattle.kt_store.specs.declared.store.CkptStore.{Ghosts}
-use Rattle.kt_world.specs.State.{State}
+use Rattle.kt_model.specs.State.{State}
 use Rattle.kt_core.specs.Store.{IsFault}
-use Rattle.kt_core.specs.World.{Standing, beside}
+use Rattle.kt_core.specs.World.{WorldModel, beside}
 
 -- the world stays as it was, and while its store, of this kind, is honest the answer is what this says of its state
-pub record IsAsked {S T : Type 0} (kind : Ghosts S) (old new : Standing) (Says : State → T → Type 0)
+pub record IsAsked {S T : Type 0} (kind : Ghosts S) (old new : WorldModel) (Says : State → T → Type 0)
     (result : Result T StoreError) : Type 0 where
   pub value : IsTrue new.is_honest → IfOk result (Says old.state)
   pub same : IsTrue new.is_honest → new.state ≡ old.state

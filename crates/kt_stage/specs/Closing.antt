@@ -1,10 +1,11 @@
 -- What a stage is closed with: a seat for each node, which keeps the receipts of just the node's steps.
+-- Cited by Seats, Unmatched, closing.rt, specs/auxiliary/Midway, `closing::first_unmatched`, `closing::is_matched`.
 use Rattle.std.specs.Prelude.{◌≡◌, ◌≢◌, ℕ, ◌+◌, Bool, not, IsTrue, List, [], ◌∷◌, All, filter, find, flat_map}
 use Rattle.std.specs.Prelude.{Option, None, Some}
 use Rattle.std.specs.List.{list_any}
 use Rattle.kt_tuple.specs.declared.node.NodeId.{NodeId}
 use Rattle.kt_tuple.specs.Node.{node_eq, is_before}
-use Rattle.kt_world.specs.declared.step.Step.{Step}
+use Rattle.kt_scenario.specs.declared.step.Step.{Step}
 use Rattle.kt_stage.specs.declared.closing.CloseError.{CloseError}
 use Rattle.kt_stage.specs.declared.closing.CloseError.TheVariants as refusals
 use Rattle.kt_stage.specs.declared.seat.Receipt.{Receipt}

@@ -1,15 +1,16 @@
 -- What a seat sees of its shard, and whom it proposes to serve by it.
+-- Cited by glance.rt.
 use Rattle.std.specs.Prelude.{◌≡◌, ℕ, Bool, true, false, if◌then◌else◌, is_ok, length, Option, None, Some}
 use Rattle.std.specs.Prelude.{Result, Ok, Err, IfOk, IfErr, IsSome}
 use Rattle.kt_tuple.specs.declared.node.NodeId.{NodeId}
 use Rattle.kt_tuple.specs.declared.node.NodeId.TheVariants as ids
 use Rattle.kt_shard.specs.Shard.{Shard}
 use Rattle.kt_shard.specs.Service.{service}
-use Rattle.kt_world.specs.declared.step.Step.{Step}
-use Rattle.kt_world.specs.declared.step.Step.TheVariants.{Serve}
-use Rattle.kt_world.specs.State.{State}
+use Rattle.kt_scenario.specs.declared.step.Step.{Step}
+use Rattle.kt_scenario.specs.declared.step.Step.TheVariants.{Serve}
+use Rattle.kt_model.specs.State.{State}
 use Rattle.kt_core.specs.Lent.{shard}
-use Rattle.kt_core.specs.World.{Standing}
+use Rattle.kt_core.specs.World.{WorldModel}
 use Rattle.kt_stage.specs.declared.glance.GlanceError.{GlanceError}
 use Rattle.kt_stage.specs.declared.glance.GlanceError.TheVariants as refusals
 use Rattle.kt_stage.specs.declared.glance.Proposal.{Proposal}
@@ -20,7 +21,7 @@ use Rattle.kt_stage.specs.declared.seat.Receipt.{Receipt}
 use Rattle.kt_stage.specs.Acting.{IsActedOn}
 use Rattle.kt_stage.specs.Journal.{Held, Journal, Replays}
 
--- what a glance is to its callers: whose it is, the shard as it was, and how many receipts the seat had then
+-- the abstract state of a glance: whose it is, the shard as it was, and how many receipts the seat had then
 pub record Glance : Type 0 where
   pub node : NodeId
   pub shard : Shard
@@ -45,7 +46,7 @@ pub record IsSeen (s : State) (seat : Held) (g : Glance) : Type 0 where
   pub shard : shard s seat.node ≡ Some g.shard
 
 -- the seat looked at the stage while its journal was this, to which its steps led
-pub record IsGlance (opening : Standing) (seat : Held) (result : Result Glance GlanceError) : Type 0 where
+pub record IsGlance (opening : WorldModel) (seat : Held) (result : Result Glance GlanceError) : Type 0 where
   pub journal : Journal
   pub replays : Replays opening journal.world journal.steps
   pub seen : IfOk result (IsSeen journal.world.state seat)
@@ -70,7 +71,7 @@ confirmed (Ok r) = Ok r
 confirmed (Err refusal) = Err (confirms.Act refusal)
 
 -- the step was tried as `act` does it
-pub record IsConfirmed (opening : Standing) (p : NodeId) (step : Step) (result : Result Receipt ConfirmError)
+pub record IsConfirmed (opening : WorldModel) (p : NodeId) (step : Step) (result : Result Receipt ConfirmError)
     : Type 0 where
   pub answer : Result Receipt ActError
   pub is : result ≡ confirmed answer

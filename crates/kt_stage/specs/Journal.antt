@@ -1,19 +1,25 @@
 -- The journal of a stage: all steps that were made, each at its place; and what its seats keep of them.
+-- and
+--   2 more; kt_run.
+-- Cited by Ended, Halts, Making, Seats, Settled, Unmatched, closing.rt, journal.rt, locked_journal.rt, running.rt,
+--   seat.rt, specs/Acting, specs/Closing, specs/Glancing, specs/Running, specs/Settling, specs/auxiliary/Halting,
+--   specs/auxiliary/Midway, stage.rt, `Journal::make`, `RunState::look`, `Stage::close`, `Stage::glance`,
+--   `closing::fits` and 2 more; kt_run.
 use Rattle.std.specs.Prelude.{◌≡◌, ℕ, ◌+◌, if◌then◌else◌, List, [], ◌∷◌, ◌++◌}
 use Rattle.std.specs.Prelude.{Result, Ok, Err, IsTrue}
 use Rattle.kt_tuple.specs.declared.node.NodeId.{NodeId}
 use Rattle.kt_tuple.specs.Node.{node_eq}
-use Rattle.kt_world.specs.declared.step.Step.{Step}
-use Rattle.kt_world.specs.declared.step.StepError.{StepError}
-use Rattle.kt_world.specs.Effect.{step_result}
-use Rattle.kt_world.specs.State.{State}
-use Rattle.kt_world.specs.Step.{owner}
-use Rattle.kt_core.specs.World.{Standing}
+use Rattle.kt_scenario.specs.declared.step.Step.{Step}
+use Rattle.kt_model.specs.declared.error.StepError.{StepError}
+use Rattle.kt_model.specs.Effect.{step_result}
+use Rattle.kt_model.specs.State.{State}
+use Rattle.kt_scenario.specs.Step.{owner}
+use Rattle.kt_core.specs.World.{WorldModel}
 use Rattle.kt_stage.specs.declared.seat.Receipt.{Receipt}
 
--- what a journal is to its callers
+-- the abstract state of a journal
 pub record Journal : Type 0 where
-  pub world : Standing
+  pub world : WorldModel
   pub steps : List Step
 
 -- the step is made, if what came before it was
@@ -30,7 +36,7 @@ abbrev pub all_made : State → List Step → Result State StepError
 all_made s steps = made_from (Ok s) steps
 
 -- while the store is honest, as it was then too, the steps lead from the one world to the other, each of them made
-abbrev pub Replays : Standing → Standing → List Step → Type 0
+abbrev pub Replays : WorldModel → WorldModel → List Step → Type 0
 Replays opening world steps =
     IsTrue world.is_honest → IsTrue opening.is_honest × (all_made opening.state steps ≡ Ok world.state)
 
@@ -48,7 +54,7 @@ unfoldable pub receipts_of : NodeId → ℕ → List Step → List Receipt
 receipts_of p number [] = []
 receipts_of p number (step ∷ later) = kept_of p number step ++ receipts_of p (number + 1) later
 
--- what a seat is to its callers: whose it is, and what it keeps
+-- the abstract state of a seat: whose it is, and what it keeps
 pub record Held : Type 0 where
   pub node : NodeId
   pub receipts : List Receipt

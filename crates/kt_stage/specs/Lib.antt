@@ -8,4 +8,4 @@ pub mod Glancing
 pub mod Closing
 pub mod Running
 pub mod Settling
-pub mod inner
+pub mod auxiliary

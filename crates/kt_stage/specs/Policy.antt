@@ -1,5 +1,8 @@
 -- What a node does next of itself, while a scenario of fault lines is run: the step of the first rule that applies to
 -- it. A step is allowed where it is enabled, the limit of steps left aside.
+-- Cited by Allowed, Asked, Ended, Nobody, Planned, Settled, asking.rt, ending.rt, locked_journal.rt, policy.rt,
+--   running.rt, serving.rt, settling.rt, specs/Running, specs/Settling, specs/auxiliary/Serving, `ending::spend_all`,
+--   `policy::first_by`, `policy::next_before_serving`, `settling::next_among`; kt_run.
 use Rattle.std.specs.Prelude.{ℕ, ◌==◌, Bool, true, false, not, ◌&&◌, ◌||◌, if◌then◌else◌, List, [], ◌∷◌, ◌++◌}
 use Rattle.std.specs.Prelude.{Option, None, Some, fold, is_some}
 use Rattle.std.specs.List.{find, list_all, list_any}
@@ -9,30 +12,31 @@ use Rattle.kt_tuple.specs.declared.op.Op.{Op}
 use Rattle.kt_tuple.specs.Node.{node_eq, node_index, is_before, all_nodes, all_workers}
 use Rattle.kt_tuple.specs.Op.{op_eq}
 use Rattle.kt_worker.specs.declared.worker.Worker.{Worker}
-use Rattle.kt_worker.specs.Standing.{again_request}
+use Rattle.kt_worker.specs.WorkerModel.{again_request}
 use Rattle.kt_shard.specs.declared.request.Request.{Request}
-use Rattle.kt_shard.specs.Shard.{Shard, desk_of}
+use Rattle.kt_shard.specs.Shard.{Shard, session_of}
 use Rattle.kt_shard.specs.Table.{at}
 use Rattle.kt_store.specs.declared.rows.Verdict.{Verdict}
 use Rattle.kt_store.specs.declared.rows.Verdict.TheVariants as verdicts
 use Rattle.kt_store.specs.Content.{Content, verdict_of}
 use Rattle.kt_vote.specs.declared.asker.Asker.{Asker}
 use Rattle.kt_vote.specs.Poll.{Poll, is_awaited}
-use Rattle.kt_node.specs.declared.live.Phase.{Phase}
-use Rattle.kt_node.specs.declared.live.Phase.TheVariants as phases
-use Rattle.kt_node.specs.declared.node.Mode.{Mode}
-use Rattle.kt_node.specs.declared.node.Mode.TheVariants as modes
-use Rattle.kt_node.specs.Node.{Node, Down, Alive, node_number}
+use Rattle.kt_state.specs.declared.live.Phase.{Phase}
+use Rattle.kt_state.specs.declared.live.Phase.TheVariants as phases
+use Rattle.kt_state.specs.declared.node.Mode.{Mode}
+use Rattle.kt_state.specs.declared.node.Mode.TheVariants as modes
+use Rattle.kt_state.specs.Node.{Node, Down, Alive, node_number}
 use Rattle.kt_node.specs.Talking.{home}
-use Rattle.kt_world.specs.declared.step.Step.{Step}
-use Rattle.kt_world.specs.declared.step.Step.TheVariants.{Issue, Repeat, Deliver, Take, Serve, Check, Decide, Abandon}
-use Rattle.kt_world.specs.declared.step.Step.TheVariants.{Learn, Fail, Restart}
-use Rattle.kt_world.specs.Needs.{mode_at, poll_at}
-use Rattle.kt_world.specs.Cast.{is_node}
-use Rattle.kt_world.specs.State.{State, view}
-use Rattle.kt_core.specs.declared.faults.FaultKind.TheVariants as kinds
-use Rattle.kt_core.specs.declared.faults.FaultLine.{FaultLine}
-use Rattle.kt_core.specs.Faults.{is_due, spent}
+use Rattle.kt_scenario.specs.declared.step.Step.{Step}
+use Rattle.kt_scenario.specs.declared.step.Step.TheVariants.{Issue, Repeat, Deliver, Take, Serve, Check, Decide}
+use Rattle.kt_scenario.specs.declared.step.Step.TheVariants.{Abandon}
+use Rattle.kt_scenario.specs.declared.step.Step.TheVariants.{Learn, Fail, Restart}
+use Rattle.kt_model.specs.ReadSet.{mode_at, poll_at}
+use Rattle.kt_scenario.specs.Scene.{is_node}
+use Rattle.kt_model.specs.State.{State, view}
+use Rattle.kt_scenario.specs.declared.faults.FaultKind.TheVariants as kinds
+use Rattle.kt_scenario.specs.declared.faults.FaultLine.{FaultLine}
+use Rattle.kt_scenario.specs.Faults.{is_due, spent}
 use Rattle.kt_core.specs.Lent.{is_allowed, message_at, shard, worker}
 use Rattle.kt_stage.specs.declared.traffic.Sought.TheVariants as soughts
 use Rattle.kt_stage.specs.declared.policy.Rule.{Rule}
@@ -123,7 +127,7 @@ got_no s p = node_got_no s.content (view s p).node
 
 -- the scene does not have the node
 abbrev pub is_absent : State → NodeId → Bool
-is_absent s x = not (is_node s.cast x)
+is_absent s x = not (is_node s.scene x)
 
 abbrev pub lets_restart : State → NodeId → NodeId → Bool
 lets_restart s p x = is_absent s x || (node_eq x p || (is_up s x || (got_no s x && is_before p x)))
@@ -162,7 +166,7 @@ is_waiting r (Some request) = is_request r request
 
 abbrev pub waits_in : Option Shard → ℕ → ℕ × Op → Bool
 waits_in None w r = false
-waits_in (Some y) w r = is_waiting r (desk_of y w).waiting
+waits_in (Some y) w r = is_waiting r (session_of y w).waiting
 
 -- something with this number goes from the one to the other or back, or is kept back by one of them
 abbrev pub is_in_traffic : State → NodeId → NodeId → ℕ → Bool
@@ -177,7 +181,7 @@ is_forgotten s p q r =
 
 abbrev pub is_lost_request : State → NodeId → Option (ℕ × Op) → Bool
 is_lost_request s p None = false
-is_lost_request s p (Some r) = is_forgotten s p (home s.cast.shards r.1) r
+is_lost_request s p (Some r) = is_forgotten s p (home s.scene.shards r.1) r
 
 abbrev pub unanswered : Option Worker → Option (ℕ × Op)
 unanswered None = None

@@ -1,14 +1,15 @@
 -- How a world settles: step after step, each the next one of the first node that has one, until no node has any.
+-- Cited by Halts, Settled, settling.rt, `settling::settle`.
 use Rattle.std.specs.Prelude.{◌≡◌, ◌<◌, ℕ, ◌+◌, Bool, true, false, List, length, slice_get, take, Option, Some, Ok}
 use Rattle.std.specs.Prelude.{IsTrue}
-use Rattle.kt_world.specs.declared.step.Step.{Step}
-use Rattle.kt_world.specs.declared.step.StepError.{StepError}
-use Rattle.kt_world.specs.declared.step.StepError.TheVariants as refusals
-use Rattle.kt_world.specs.Judge.{planned}
-use Rattle.kt_world.specs.State.{State}
-use Rattle.kt_core.specs.declared.faults.FaultLine.{FaultLine}
+use Rattle.kt_scenario.specs.declared.step.Step.{Step}
+use Rattle.kt_model.specs.declared.error.StepError.{StepError}
+use Rattle.kt_model.specs.declared.error.StepError.TheVariants as refusals
+use Rattle.kt_model.specs.StepPlan.{step_plan}
+use Rattle.kt_model.specs.State.{State}
+use Rattle.kt_scenario.specs.declared.faults.FaultLine.{FaultLine}
 use Rattle.kt_core.specs.Stepping.{Refuses}
-use Rattle.kt_core.specs.World.{Standing}
+use Rattle.kt_core.specs.World.{WorldModel}
 use Rattle.kt_stage.specs.Journal.{Replays, all_made}
 use Rattle.kt_tuple.specs.Node.{all_nodes}
 use Rattle.kt_stage.specs.Policy.{first_some, next_step, spent_by}
@@ -25,12 +26,12 @@ AreChosen from lines steps =
     → next_of_first s (spent_by lines (take n steps)) ≡ slice_get steps n
 
 -- these steps, each of them made, led from the one world to the other, and left these fault lines
-pub record Settles (old new : Standing) (lines left : List FaultLine) (steps : List Step) : Type 0 where
+pub record Settles (old new : WorldModel) (lines left : List FaultLine) (steps : List Step) : Type 0 where
   pub made : Replays old new steps
   pub chosen : IsTrue new.is_honest → AreChosen old.state lines steps
   pub spent : left ≡ spent_by lines steps
   pub count : new.state.made ≡ old.state.made + length steps
-  pub scene : new.state.cast ≡ old.state.cast
+  pub scene : new.state.scene ≡ old.state.scene
 
 -- a step that is allowed is refused by nothing else
 abbrev pub is_any_steps : StepError → Bool
@@ -43,7 +44,7 @@ is_any_steps refusal = false
 pub record IsRefusedNext (s : State) (lines : List FaultLine) (refusal : StepError) : Type 0 where
   pub step : Step
   pub next : next_of_first s lines ≡ Some step
-  pub why : Refuses refusal (planned s step)
+  pub why : Refuses refusal (step_plan s step)
 
 -- why a world does not settle: the step that is next is refused; or the store is, already when it is asked what is next
 abbrev pub IsHeldUp : State → List FaultLine → StepError → Type 0

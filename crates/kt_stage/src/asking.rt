@@ -1,17 +1,18 @@
 //! What can be told of a world for the rules of the policy.
+//! Cited by policy.rt, waking.rt.
 
 ghost use Rattle.std.specs.Prelude.{◌≡◌, false, IsTrue};
 ghost use Rattle.std.specs.Option.{option_copied};
 ghost use Rattle.kt_tuple.specs.Node.{node_index};
-ghost use Rattle.kt_node.specs.Node.{node_number};
+ghost use Rattle.kt_state.specs.Node.{node_number};
 ghost use Rattle.kt_node.specs.Talking.{home};
 ghost use Rattle.kt_stage.specs.Asking.{IsAsked};
 ghost use Rattle.kt_stage.specs.Policy.{got_no, has_silent, if_allowed, is_down, is_forgotten, is_in_traffic};
 ghost use Rattle.kt_stage.specs.Policy.{is_lost_request, is_silent, is_up, lets_restart, owes_vote, unanswered};
 ghost use Rattle.kt_stage.specs.Policy.{waits_in, waits_in_vain, will_vote};
 ghost use Rattle.kt_core.specs.Lent.{shard, worker};
-ghost use Rattle.kt_world.specs.Cast.{is_node};
-ghost use Rattle.kt_world.specs.Needs.{poll_at};
+ghost use Rattle.kt_scenario.specs.Scene.{is_node};
+ghost use Rattle.kt_model.specs.ReadSet.{poll_at};
 
 use crate::traffic::{Sought, is_kept, is_on_link};
 use kt_core::{Step, World};
@@ -24,7 +25,7 @@ use std::alloc::Global;
 /// Whether the node is up: no where it is held, rolls back, is down or is not in the scene.
 pub(crate) fn is_up<S: CkptStore>(world: &World<S>, node: NodeId) -> bool
     ensures value { result ≡ is_up world.now.state node }
-    ensures there { IsTrue result → IsTrue (is_node world.now.state.cast node) }
+    ensures there { IsTrue result → IsTrue (is_node world.now.state.scene node) }
 {
     matches!(world.mode(node), Some(Mode::Up))
 }
@@ -32,7 +33,7 @@ pub(crate) fn is_up<S: CkptStore>(world: &World<S>, node: NodeId) -> bool
 /// Whether the node is down, or not in the scene.
 pub(crate) fn is_down<S: CkptStore>(world: &World<S>, node: NodeId) -> bool
     ensures value { result ≡ is_down world.now.state node }
-    ensures there { result ≡ false → IsTrue (is_node world.now.state.cast node) }
+    ensures there { result ≡ false → IsTrue (is_node world.now.state.scene node) }
 {
     matches!(world.mode(node), None | Some(Mode::Down))
 }

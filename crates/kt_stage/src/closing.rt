@@ -1,11 +1,12 @@
 //! Closing a stage: whether each seat keeps just the journal's steps of its node, with their places.
+//! Cited by running.rt; linda_kt.
 
 ghost use Rattle.std.specs.Prelude.{◌≡◌, ◌≢◌, ◌↔◌, ◌++◌, List, IfErr, IfNone, IfOk, IfSome, IsPermutation};
 ghost use Rattle.std.specs.Prelude.{All, IsTrue, MatchOption};
 ghost use Rattle.kt_core.specs.Store.{AreLater};
 ghost use Rattle.kt_stage.specs.declared.seat.Receipt.{Receipt};
 ghost use Rattle.kt_stage.specs.Closing.{IsCloseCause, IsFirstUnmatched, IsMatched, first_missing, has_seat};
-ghost use Rattle.kt_stage.specs.inner.Midway.{IsClosed};
+ghost use Rattle.kt_stage.specs.auxiliary.Midway.{IsClosed};
 ghost use Rattle.kt_stage.specs.Closing.{numbered, receipts_in};
 ghost use Rattle.kt_stage.specs.Journal.{Replays, kept_of, receipts_of};
 ghost use Rattle.kt_stage.specs.Order.{nodes_of};
@@ -136,14 +137,18 @@ impl<S: CkptStore, L: Naming> Stage<S, L> {
         ensures later { IfOk result (λ j. AreLater L.opening.counts j.world.counts) }
         ensures kept { IfOk result (λ j.
             All (λ seat. seat.receipts ≡ receipts_of seat.node 1 j.steps) seats.items) }
-        ensures one_each { IfOk result (λ j. All (IsMatched j.steps seats.items) (nodes_of L.opening.state.cast)) }
+        ensures one_each { IfOk result (λ j. All (IsMatched j.steps seats.items) (nodes_of L.opening.state.scene)) }
         ensures each_step { IfOk result (λ j. IsPermutation (numbered 1 j.steps) (receipts_in seats.items)) }
-        ensures cause { IfErr result (λ e. IsCloseCause (nodes_of L.opening.state.cast) e.1.steps seats.items e.0) }
+        ensures cause { IfErr result (λ e. IsCloseCause (nodes_of L.opening.state.scene) e.1.steps seats.items e.0) }
         ensures replays_back { IfErr result (λ e. Replays L.opening e.1.world e.1.steps) }
         ensures later_back { IfErr result (λ e. AreLater L.opening.counts e.1.world.counts) }
     {
-        let Stage { floor, nodes, .. } = self;
-        let journal = floor.into_inner().desk.journal;
+        let Stage {
+            run_state,
+            nodes,
+            ..
+        } = self;
+        let journal = run_state.into_inner().locked.journal;
         match refusal_of(&nodes, &seats, &journal.steps) {
             None => Ok(journal),
             Some(cause) => Err((cause, journal)),

@@ -1,16 +1,17 @@
 //! That a stage may be shared by threads, type by type from within. One search would have to go from the stage down to
 //! the letters of a tuple, and gives up before it is there.
+//! Cited by running.rt.
 
 ghost use denote.Param.Send.{IsSend, IsSync};
-ghost use Rattle.kt_core.specs.contracts.faults.Faults.{the_row as faults_row};
 ghost use Rattle.kt_core.specs.contracts.world.World.{the_row as world_row};
+ghost use Rattle.kt_scenario.specs.contracts.faults.Faults.{the_row as faults_row};
 ghost use Rattle.kt_stage.specs.contracts.journal.Journal.{the_row as journal_row};
-ghost use Rattle.kt_stage.specs.contracts.stage.Floor.{the_row as floor_row};
+ghost use Rattle.kt_stage.specs.contracts.stage.RunState.{the_row as run_state_row};
 ghost use Rattle.kt_stage.specs.contracts.stage.Stage.{the_row as stage_row};
 
 use crate::journal::Journal;
 use crate::naming::Naming;
-use crate::stage::{Floor, Stage};
+use crate::stage::{RunState, Stage};
 use kt_core::{Faults, World};
 use kt_store::CkptStore;
 
@@ -43,13 +44,13 @@ fn faults_may_go()
     may_go::<Faults>();
 }
 
-fn floor_may_go<S: CkptStore + Send, L: Naming + Send>()
-    ensures { IsSend (floor_row S.row L.row S.CkptStore (record { opening = L.opening })
+fn run_state_may_go<S: CkptStore + Send, L: Naming + Send>()
+    ensures { IsSend (run_state_row S.row L.row S.CkptStore (record { opening = L.opening })
         (record { name = L.name; parts = L.parts })) }
 {
     journal_may_go::<S>();
     faults_may_go();
-    may_go::<Floor<S, L>>();
+    may_go::<RunState<S, L>>();
 }
 
 /// Threads may share a stage whose store and whose name may go to another thread. It does nothing.
@@ -57,6 +58,6 @@ pub(crate) fn stage_may_be_shared<S: CkptStore + Send, L: Naming + Send>()
     ensures { IsSync (stage_row S.row L.row S.CkptStore (record { opening = L.opening })
         (record { name = L.name; parts = L.parts })) }
 {
-    floor_may_go::<S, L>();
+    run_state_may_go::<S, L>();
     may_be_shared::<Stage<S, L>>();
 }

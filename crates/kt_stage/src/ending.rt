@@ -1,4 +1,5 @@
 //! Whether a journal is at its end: no node has a next step.
+//! Cited by running.rt.
 
 ghost use Rattle.std.specs.Prelude.{◌≡◌};
 ghost use Rattle.kt_stage.specs.Asking.{IsAsked};

@@ -1,4 +1,5 @@
 //! Why a node did not act.
+//! Cited by glance.rt, locked_journal.rt, node_thread.rt, stage.rt, waking.rt.
 
 use kt_core::StepError;
 use thiserror::Error;

@@ -1,4 +1,5 @@
 //! Searching outside the lock: a shard's seat looks at its shard, searches what it saw, and proposes whom to serve.
+//! Cited by node_thread.rt.
 
 ghost use Rattle.std.specs.Prelude.{◌≡◌, ◌<◌, ◌≤◌, ◌++◌, ◌∷◌, ℕ, [], length, true, false, None, Some};
 ghost use Rattle.std.specs.Prelude.{Err, IfErr, IfOk, OnErr};
@@ -8,8 +9,8 @@ ghost use Rattle.kt_stage.specs.Glancing.{proposal_of};
 ghost use Rattle.kt_stage.specs.declared.glance.GlanceError.TheVariants as glances;
 ghost use Rattle.kt_stage.specs.declared.glance.ConfirmError.TheVariants as confirms;
 
-use crate::desk::Desk;
 use crate::error::ActError;
+use crate::locked_journal::LockedJournal;
 use crate::naming::Naming;
 use crate::seat::{Receipt, Seat};
 use crate::stage::Stage;
@@ -135,7 +136,7 @@ pub fn propose(glance: &Glance, worker: NodeId) -> Option<Proposal>
     })
 }
 
-impl<S: CkptStore, L: Naming> Desk<S, L> {
+impl<S: CkptStore, L: Naming> LockedJournal<S, L> {
     /// What the seat's shard is, and how many receipts the seat has. The journal stays, and nothing is copied.
     pub fn glance(&mut self, alloc: Global, seat: &Seat<L>) -> Result<Glance, GlanceError>
         ensures seen { IfOk result (IsSeen self.old.journal.world.state seat.now) }
@@ -165,8 +166,9 @@ impl<S: CkptStore, L: Naming> Desk<S, L> {
 }
 
 impl<S: CkptStore, L: Naming> Stage<S, L> {
-    /// Looks at the seat's shard by `Desk::glance` under the lock, for which it may wait. `propose` then searches what
-    /// was seen without the lock. The refusals are `NotShard`, `NotUp` and `OutOfMemory`; none changes anything.
+    /// Looks at the seat's shard by `LockedJournal::glance` under the lock, for which it may wait. `propose` then
+    /// searches what was seen without the lock. The refusals are `NotShard`, `NotUp` and `OutOfMemory`; none changes
+    /// anything.
     pub fn glance(
         &self,
         rt: &impl Wait,
@@ -176,7 +178,7 @@ impl<S: CkptStore, L: Naming> Stage<S, L> {
         ensures glance { IsGlance L.opening seat.now result }
         ensures worker { is_shard_name seat.now.node ≡ false → result ≡ Err glances.NotShard }
     {
-        self.floor.lock(rt).desk.glance(alloc, seat)
+        self.run_state.lock(rt).locked.glance(alloc, seat)
     }
 
     /// Makes the step that was proposed, as `act` does, for whose lock it may wait. `Stale` where the seat has made a

@@ -1,9 +1,11 @@
 //! What names a stage.
+//! Cited by closing.rt, crossing.rt, glance.rt, locked_journal.rt, node_thread.rt, running.rt, seat.rt, stage.rt,
+//!   waking.rt; whoever calls the trait `Naming`.
 
 ghost use Rattle.std.specs.Prelude.{[], false};
-ghost use Rattle.kt_core.specs.World.{Standing};
+ghost use Rattle.kt_core.specs.World.{WorldModel};
 ghost use Rattle.kt_store.specs.Calls.{nothing_counted};
-ghost use Rattle.kt_world.specs.Reached.{opening};
+ghost use Rattle.kt_model.specs.Reached.{opening};
 
 use std::marker::Brand;
 use std::sync::ledger::Ledger;
@@ -11,7 +13,7 @@ use std::sync::ledger::Ledger;
 /// Names a stage: the ledger that counts its steps, with a part for each node, and the world that it was opened with.
 /// The name is a type, so a seat of another stage does not compile where this one is closed.
 pub trait Naming: Ledger {
-    ghost opening: { Standing };
+    ghost opening: { WorldModel };
 }
 
 impl Naming for Brand {

@@ -1,16 +1,17 @@
 //! What a node does next of itself, while a scenario of fault lines is run.
+//! Cited by ending.rt, locked_journal.rt, settling.rt.
 
 ghost use Rattle.std.specs.Prelude.{◌≡◌, IfOk, IfSome, IsTrue};
 ghost use Rattle.std.specs.List.{list_all};
 ghost use Rattle.std.specs.Option.{option_copied};
 ghost use Rattle.kt_core.specs.Lent.{is_allowed};
-ghost use Rattle.kt_world.specs.Step.{owner};
+ghost use Rattle.kt_scenario.specs.Step.{owner};
 ghost use Rattle.kt_stage.specs.Asking.{IsAsked};
 ghost use Rattle.kt_stage.specs.Policy.{asks, by_rule, checks, comes_back, fails, first_some, first_unfinished};
 ghost use Rattle.kt_stage.specs.Policy.{decides, gives_up, has_sent, hears, if_unfinished, learns, lets_restart};
 ghost use Rattle.kt_stage.specs.Policy.{next_step, repeats, takes, tries_again};
-ghost use Rattle.kt_stage.specs.inner.Serving.{next_before_serving};
-ghost use Rattle.kt_stage.specs.inner.Unanswered.{may_issue};
+ghost use Rattle.kt_stage.specs.auxiliary.Serving.{next_before_serving};
+ghost use Rattle.kt_stage.specs.auxiliary.Unanswered.{may_issue};
 
 use crate::asking::{
     got_no, if_allowed, is_down, is_lost_request, is_up, lets_restart, waits_in_vain,

@@ -1,4 +1,5 @@
 //! A run: a thread for each node, each by the policy, until no node has a next step.
+//! Cited by stage.rt; kt_command, kt_run, linda_kt.
 
 ghost use Rattle.std.specs.Prelude.{◌≡◌, length, true, IfErr, IfOk, IsTrue, None, Ok};
 ghost use denote.Param.Send.{IsSend, IsSync};
@@ -8,9 +9,9 @@ ghost use Rattle.kt_stage.specs.Order.{nodes_of};
 ghost use Rattle.kt_stage.specs.Policy.{first_unfinished, spent_by};
 ghost use Rattle.kt_stage.specs.Running.{IsLeft, IsStopped, Leads, left_value};
 ghost use Rattle.kt_core.specs.Store.{AreLater, IsLeftSome, store_value};
-ghost use Rattle.kt_stage.specs.inner.Halting.{IsHalted};
+ghost use Rattle.kt_stage.specs.auxiliary.Halting.{IsHalted};
 ghost use Rattle.kt_store.specs.Content.{is_fresh};
-ghost use Rattle.kt_world.specs.Reached.{opening};
+ghost use Rattle.kt_model.specs.Reached.{opening};
 
 use crate::closing::CloseError;
 use crate::crossing::stage_may_be_shared;
@@ -18,7 +19,7 @@ use crate::ending::unfinished;
 use crate::gate::Gate;
 use crate::journal::Journal;
 use crate::naming::Naming;
-use crate::playing::{Halted, Player, play_to_end};
+use crate::node_thread::{Halted, NodeThread, take_turns_to_end};
 use crate::seat::Seat;
 use crate::stage::{Stage, node_count};
 use kt_core::{Faults, OpenError, ResumeError, Scene, Start, StartError, StepError, World};
@@ -57,7 +58,7 @@ pub enum RunFault {
 
 impl From<StartError> for RunFault {
     ghost use Rattle.std.specs.Prelude.{◌≡◌};
-    ghost use Rattle.kt_stage.specs.inner.Unbegun.{fault_of};
+    ghost use Rattle.kt_stage.specs.auxiliary.Unbegun.{fault_of};
 
     ghost from_gives = { λ cause fault. fault ≡ fault_of cause };
 
@@ -91,26 +92,29 @@ impl<S: CkptStore> Left<S> {
     }
 }
 
-/// A player for each seat.
-fn players_of<L: Naming>(alloc: Global, seats: Vec<Seat<L>>) -> Result<Vec<Player<L>>, AllocError> {
-    let mut players = Vec::with_capacity(alloc, seats.len())?;
+/// A thread for each seat.
+fn node_threads_of<L: Naming>(
+    alloc: Global,
+    seats: Vec<Seat<L>>,
+) -> Result<Vec<NodeThread<L>>, AllocError> {
+    let mut node_threads = Vec::with_capacity(alloc, seats.len())?;
     for seat in seats {
-        let place = players.len();
-        players.push(Player {
+        let place = node_threads.len();
+        node_threads.push(NodeThread {
             seat,
             place,
             in_vain: None,
         })?;
     }
-    Ok(players)
+    Ok(node_threads)
 }
 
-/// Starts a thread for each player, and joins them all. Where one could not be started the others are told to end.
+/// Starts each of these threads, and joins them all. Where one could not be started the others are told to end.
 fn perform<R, S, L, G>(
     rt: &R,
     alloc: Global,
     stage: &Stage<S, L>,
-    players: Vec<Player<L>>,
+    node_threads: Vec<NodeThread<L>>,
     gate: &G,
 ) -> Result<Vec<Seat<L>>, Halted>
 where
@@ -131,8 +135,14 @@ where
             let mut seats = Vec::new(alloc);
             let mut handles = Vec::new(alloc);
             let mut ended = Ok(());
-            for player in players {
-                let started = scope.spawn(move || play_to_end(rt, alloc, stage, player, gate));
+            for node_thread in node_threads {
+                let started = scope.spawn(move || take_turns_to_end(
+                    rt,
+                    alloc,
+                    stage,
+                    node_thread,
+                    gate,
+                ));
                 // A thread that cannot be started ends the run as want of memory does; those that were started are
                 // joined all the same (docs/DECISIONS.md#threads).
                 let is_started = match started {
@@ -172,7 +182,7 @@ where
     G: Gate + Sync,
     requires name { blank.name ≡ L.name }
     requires parts { blank.parts ≡ L.parts }
-    requires one_each { blank.parts ≡ length (nodes_of world.state.cast) }
+    requires one_each { blank.parts ≡ length (nodes_of world.state.scene) }
     requires opening { L.opening ≡ world }
     ensures replays { IfOk result (λ j. Replays L.opening j.world j.steps) }
     ensures later { IfOk result (λ j. AreLater L.opening.counts j.world.counts) }
@@ -188,11 +198,11 @@ where
     let Ok(faults) = faults.copy(alloc) else {
         return Err(stage.into_halted());
     };
-    stage.floor.get_mut().faults = faults;
-    let Ok(players) = players_of(alloc, seats) else {
+    stage.run_state.get_mut().faults = faults;
+    let Ok(node_threads) = node_threads_of(alloc, seats) else {
         return Err(stage.into_halted());
     };
-    match perform(rt, alloc, &stage, players, gate) {
+    match perform(rt, alloc, &stage, node_threads, gate) {
         Ok(seats) => match stage.close(seats) {
             Ok(journal) => Ok(journal),
             Err((cause, journal)) => Err((RunFault::Close(cause), journal)),
@@ -206,7 +216,7 @@ where
 /// thread is joined. The run ends early with the first step that is refused. It may wait for its threads and the gate.
 ///
 /// Where it is refused, scene, fault lines and store are gone. So its clause speaks of some store of its kind in place
-/// of the one that was left; of a kind that is not always honest `run_threads_over` says more.
+/// of the one that was left; of a kind that is not always honest `run_threads_returning_left` says more.
 ///
 /// Which steps are made, and in what order, is not promised; nor that the run ends. Of seats that do not fit and of
 /// want of memory no more is promised than that the steps that were made have left the store.
@@ -231,7 +241,7 @@ where
     ensures stopped { IfErr result (λ fault. IsLeftSome (store_value S.CkptStore) (λ left.
         IsStopped Start.Open (store_value S.CkptStore store) left scene faults fault)) }
 {
-    match run_threads_over(rt, alloc, Start::Open, scene, faults, store, gate) {
+    match run_threads_returning_left(rt, alloc, Start::Open, scene, faults, store, gate) {
         Ok(journal) => Ok(journal),
         Err((fault, left)) => {
             drop(left.into_store());
@@ -244,7 +254,7 @@ where
 /// early: the journal of the steps that were made, or, where no world began, the store. `run_threads` drops it, so its
 /// clauses can name nothing that a caller sees; these speak of what is given back (docs/DECISIONS.md#the-report). The
 /// own steps by which fault lines are due are counted from the start of the world.
-pub fn run_threads_over<R, S, G>(
+pub fn run_threads_returning_left<R, S, G>(
     rt: &R,
     alloc: Global,
     start: Start,

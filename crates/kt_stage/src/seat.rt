@@ -1,4 +1,5 @@
 //! Seats: who acts on a stage, and what each keeps of it.
+//! Cited by closing.rt, glance.rt, locked_journal.rt, node_thread.rt, running.rt, stage.rt, waking.rt.
 
 ghost use Rattle.std.specs.Prelude.{◌≡◌, IsTrue};
 ghost use Rattle.kt_stage.specs.Order.{has_node};
@@ -39,14 +40,14 @@ impl<L: Naming> Model for Seat<L> {
     ghost view = { λ s. record { node = s.node; receipts = s.receipts.items } };
 
     ghost invariant = { λ s. (s.share.parts ≡ 1) × (s.share.amount ≡ vec_len s.receipts)
-        × IsTrue (has_node L.opening.state.cast s.node) };
+        × IsTrue (has_node L.opening.state.scene s.node) };
 }
 
 impl<L: Naming> Seat<L> {
     /// The node whose seat it is: one of the scene.
     pub fn node(&self) -> NodeId
         ensures value { result ≡ self.now.node }
-        ensures there { IsTrue (has_node L.opening.state.cast self.now.node) }
+        ensures there { IsTrue (has_node L.opening.state.scene self.now.node) }
     {
         self.node
     }

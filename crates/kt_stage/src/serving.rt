@@ -1,9 +1,10 @@
 //! Whom a shard serves next. The shard itself is asked, as the world lends it: to ask of each worker whether its step
 //! is allowed would plan each of these steps.
+//! Cited by policy.rt.
 
 ghost use Rattle.std.specs.Prelude.{◌≡◌, IsTrue, Some};
 ghost use Rattle.kt_core.specs.Lent.{shard};
-ghost use Rattle.kt_world.specs.Cast.{is_shard, is_worker};
+ghost use Rattle.kt_scenario.specs.Scene.{is_shard, is_worker};
 ghost use Rattle.kt_stage.specs.Policy.{first_some, serves, serves_with_first};
 
 use kt_core::{Step, World};
@@ -13,14 +14,14 @@ use kt_tuple::{ALL_WORKERS, NodeId};
 
 /// Whether the node is a shard of the scene.
 fn is_shard<S: CkptStore>(world: &World<S>, node: NodeId) -> bool
-    ensures { result ≡ is_shard world.now.state.cast node }
+    ensures { result ≡ is_shard world.now.state.scene node }
 {
     matches!(node, NodeId::Shard(_)) && world.mode(node).is_some()
 }
 
 /// Whether the node is a worker of the scene.
 fn is_worker<S: CkptStore>(world: &World<S>, node: NodeId) -> bool
-    ensures { result ≡ is_worker world.now.state.cast node }
+    ensures { result ≡ is_worker world.now.state.scene node }
 {
     matches!(node, NodeId::Worker(_)) && world.mode(node).is_some()
 }
@@ -32,7 +33,7 @@ fn serves_with_first<S: CkptStore>(
     server: &Shard,
     worker: NodeId,
 ) -> Option<Step>
-    requires there { IsTrue (is_shard world.now.state.cast node) }
+    requires there { IsTrue (is_shard world.now.state.scene node) }
     requires is { shard world.now.state node ≡ Some server.now.state }
     ensures { result ≡ serves_with_first world.now.state node worker }
 {
@@ -54,7 +55,7 @@ fn first_served<S: CkptStore>(
     node: NodeId,
     server: &Shard,
 ) -> Option<Step>
-    requires there { IsTrue (is_shard world.now.state.cast node) }
+    requires there { IsTrue (is_shard world.now.state.scene node) }
     requires is { shard world.now.state node ≡ Some server.now.state }
     ensures { result ≡ first_some (serves_with_first world.now.state node) workers.now }
 {

@@ -1,4 +1,5 @@
 //! A world settles: on one thread, step after step by the policy, until no node has a next one. It takes no lock.
+//! Cited by no other file of crates/.
 
 ghost use Rattle.std.specs.Prelude.{◌≡◌, None, List, IfErr, IfOk, IfSome, IsTrue, OnOk};
 ghost use Rattle.kt_core.specs.Lent.{is_allowed};
@@ -7,7 +8,7 @@ ghost use Rattle.kt_stage.specs.Asking.{IsAsked};
 ghost use Rattle.kt_store.specs.Calls.{NeverFails};
 ghost use Rattle.kt_stage.specs.Policy.{first_some, next_step};
 ghost use Rattle.kt_stage.specs.Settling.{IsHeldUp, Settles, next_of_first};
-ghost use Rattle.kt_world.specs.declared.step.Step.{Step as Made};
+ghost use Rattle.kt_scenario.specs.declared.step.Step.{Step as Made};
 
 use crate::policy::next_for;
 use kt_core::{Faults, Step, StepError, World};

@@ -1,4 +1,5 @@
 //! The stage: a journal under a lock, and a seat for each node.
+//! Cited by closing.rt, crossing.rt, glance.rt, node_thread.rt, running.rt, waking.rt.
 
 ghost use Rattle.std.specs.Prelude.{◌≡◌, ◌≢◌, ◌≤◌, ◌++◌, ◌∷◌, [], filter, length, map, All, Err, IfErr, IfOk, IsTrue};
 ghost use Rattle.std.specs.Prelude.{OnErr};
@@ -7,14 +8,14 @@ ghost use Rattle.kt_stage.specs.Acting.{IsActedOn, IsOthers};
 ghost use Rattle.kt_stage.specs.Journal.{Replays, empty_seat};
 ghost use Rattle.std.specs.Option.{ForSome};
 ghost use Rattle.kt_stage.specs.Running.{IsRefusedAt};
-ghost use Rattle.kt_stage.specs.inner.Halting.{IsHalted};
+ghost use Rattle.kt_stage.specs.auxiliary.Halting.{IsHalted};
 ghost use Rattle.kt_stage.specs.Order.{has_node, nodes_of};
-ghost use Rattle.kt_world.specs.Cast.{is_node};
-ghost use Rattle.kt_world.specs.Step.{owner};
+ghost use Rattle.kt_scenario.specs.Scene.{is_node};
+ghost use Rattle.kt_scenario.specs.Step.{owner};
 
-use crate::desk::Desk;
 use crate::error::ActError;
 use crate::journal::Journal;
+use crate::locked_journal::LockedJournal;
 use crate::naming::Naming;
 use crate::running::RunFault;
 use crate::seat::{Receipt, Seat};
@@ -36,29 +37,29 @@ pub(crate) struct Refused {
     pub(crate) cause: StepError,
 }
 
-/// What the lock keeps: the desk, and what a run by threads has to know.
+/// What the lock keeps: the journal, and what a run by threads has to know.
 #[derive(Drop)]
-pub(crate) struct Floor<S: CkptStore, L: Naming> {
+pub(crate) struct RunState<S: CkptStore, L: Naming> {
     /// What was refused in a run, while nothing was tried since: why it ends early.
     pub(crate) refused: Option<Refused>,
-    pub(crate) desk: Desk<S, L>,
+    pub(crate) locked: LockedJournal<S, L>,
     /// The fault lines that are left. A node's lines are looked at and spent by its own steps alone.
     pub(crate) faults: Faults,
     /// The nodes that sleep: each had no next step when it fell asleep, and no step since may have given it one.
     pub(crate) asleep: Flags,
     /// Whether the run has ended: each thread that finds it so makes no further step.
     pub(crate) is_over: bool,
-    ghost due: { ForSome refused (λ r. IsRefusedAt L.opening.counts desk.journal r.at r.cause) },
+    ghost due: { ForSome refused (λ r. IsRefusedAt L.opening.counts locked.journal r.at r.cause) },
 }
 
 /// The stage that L names: the journal, which one node at a time changes, and for each node what wakes it.
 #[derive(Drop)]
 pub struct Stage<S: CkptStore, L: Naming> {
-    pub(crate) floor: Mutex<Floor<S, L>>,
+    pub(crate) run_state: Mutex<RunState<S, L>>,
     /// What wakes each node, in node order.
     pub(crate) bells: Vec<Condvar>,
     pub(crate) nodes: Vec<NodeId>,
-    ghost all: { nodes.items ≡ nodes_of L.opening.state.cast },
+    ghost all: { nodes.items ≡ nodes_of L.opening.state.scene },
 }
 
 /// A bell for each of so many nodes.
@@ -73,7 +74,7 @@ fn bells_of(alloc: Global, count: usize) -> Result<Vec<Condvar>, AllocError> {
 /// How many of these nodes are in the world's scene.
 fn count_among<S: CkptStore>(names: &[NodeId], world: &World<S>) -> u64
     requires { length names.now ≤ MAX_NODES }
-    ensures { result ≡ length (filter (is_node world.now.state.cast) names.now) }
+    ensures { result ≡ length (filter (is_node world.now.state.scene) names.now) }
 {
     match names.split_first() {
         None => 0,
@@ -84,7 +85,7 @@ fn count_among<S: CkptStore>(names: &[NodeId], world: &World<S>) -> u64
 
 /// How many nodes the world's scene has, and so how many parts the ledger of its stage.
 pub fn node_count<S: CkptStore>(world: &World<S>) -> u64
-    ensures { result ≡ length (nodes_of world.now.state.cast) }
+    ensures { result ≡ length (nodes_of world.now.state.scene) }
 {
     count_among(&ALL_NODES, world)
 }
@@ -95,7 +96,7 @@ fn nodes_among<S: CkptStore>(
     names: &[NodeId],
     world: &World<S>,
 ) -> Result<Vec<NodeId>, AllocError>
-    ensures { IfOk result (λ nodes. nodes.items ≡ filter (is_node world.now.state.cast) names.now) }
+    ensures { IfOk result (λ nodes. nodes.items ≡ filter (is_node world.now.state.scene) names.now) }
 {
     let mut nodes = Vec::new(alloc);
     for name in names {
@@ -110,7 +111,7 @@ fn nodes_among<S: CkptStore>(
 fn seat_of<L: Naming>(alloc: Global, node: NodeId, share: Share<L>) -> Seat<L>
     requires part { share.parts ≡ 1 }
     requires none { share.amount ≡ 0 }
-    requires there { IsTrue (has_node L.opening.state.cast node) }
+    requires there { IsTrue (has_node L.opening.state.scene node) }
     ensures { result ≡ empty_seat node }
 {
     Seat {
@@ -128,7 +129,7 @@ fn seats_of<L: Naming>(
 ) -> Result<Vec<Seat<L>>, AllocError>
     requires parts { share.parts ≡ length nodes.now }
     requires none { share.amount ≡ 0 }
-    requires there { All (λ p. IsTrue (has_node L.opening.state.cast p)) nodes.now }
+    requires there { All (λ p. IsTrue (has_node L.opening.state.scene p)) nodes.now }
     ensures { IfOk result (λ seats. seats.items ≡ map empty_seat nodes.now) }
 {
     let mut rest = share;
@@ -151,9 +152,9 @@ impl<S: CkptStore, L: Naming> Stage<S, L> {
         S: Drop,
         requires name { blank.name ≡ L.name }
         requires parts { blank.parts ≡ L.parts }
-        requires one_each { blank.parts ≡ length (nodes_of world.state.cast) }
+        requires one_each { blank.parts ≡ length (nodes_of world.state.scene) }
         requires opening { L.opening ≡ world }
-        ensures { IfOk result (λ r. r.1.items ≡ map empty_seat (nodes_of world.state.cast)) }
+        ensures { IfOk result (λ r. r.1.items ≡ map empty_seat (nodes_of world.state.scene)) }
     {
         match Stage::open_or_back(alloc, world, blank) {
             Ok(opened) => Ok(opened),
@@ -174,9 +175,9 @@ impl<S: CkptStore, L: Naming> Stage<S, L> {
         S: Drop,
         requires name { blank.name ≡ L.name }
         requires parts { blank.parts ≡ L.parts }
-        requires one_each { blank.parts ≡ length (nodes_of world.state.cast) }
+        requires one_each { blank.parts ≡ length (nodes_of world.state.scene) }
         requires opening { L.opening ≡ world }
-        ensures seats { IfOk result (λ r. r.1.items ≡ map empty_seat (nodes_of world.state.cast)) }
+        ensures seats { IfOk result (λ r. r.1.items ≡ map empty_seat (nodes_of world.state.scene)) }
         ensures back { IfErr result (λ back. back ≡ world) }
     {
         let Ok(nodes) = nodes_among(alloc, &ALL_NODES, &world) else {
@@ -191,16 +192,16 @@ impl<S: CkptStore, L: Naming> Stage<S, L> {
         };
         let steps = Vec::new(alloc);
         let journal = Journal { world, steps };
-        let desk = Desk { journal, book };
-        let floor = Floor {
-            desk,
+        let locked = LockedJournal { journal, book };
+        let run_state = RunState {
+            locked,
             faults: Faults::new(alloc),
             asleep: [false; MAX_NODES],
             is_over: false,
             refused: None,
         };
         let stage = Stage {
-            floor: Mutex::new(floor),
+            run_state: Mutex::new(run_state),
             bells,
             nodes,
         };
@@ -213,17 +214,22 @@ impl<S: CkptStore, L: Naming> Stage<S, L> {
         ensures later { AreLater L.opening.counts result.1.world.counts }
         ensures halted { IsHalted L.opening result.1 result.0 }
     {
-        let Stage { floor, .. } = self;
-        let Floor { desk, refused, .. } = floor.into_inner();
+        let Stage { run_state, .. } = self;
+        let RunState {
+            locked,
+            refused,
+            ..
+        } = run_state.into_inner();
         let fault = match refused {
             Some(Refused { at, cause }) => RunFault::Step { at, cause },
             None => RunFault::Memory,
         };
-        (fault, desk.journal)
+        (fault, locked.journal)
     }
 
-    /// Makes the step of the seat's node by `Desk::act` under the lock, for which it may wait. Others act before and
-    /// after: so `acted` says of some journal of the stage what `Desk::act` says of the one that it is lent.
+    /// Makes the step of the seat's node by `LockedJournal::act` under the lock, for which it may wait. Others act
+    /// before and after: so `acted` says of some journal of the stage what `LockedJournal::act` says of the one that it
+    /// is lent.
     pub fn act(
         &self,
         rt: &impl Wait,
@@ -240,9 +246,9 @@ impl<S: CkptStore, L: Naming> Stage<S, L> {
         ensures node { seat.new.node ≡ seat.old.node }
     {
         let mut woken = [false; MAX_NODES];
-        let mut floor = self.floor.lock(rt);
-        let acted = floor.act(alloc, seat, step, &self.nodes, &mut woken);
-        drop(floor);
+        let mut run_state = self.run_state.lock(rt);
+        let acted = run_state.act(alloc, seat, step, &self.nodes, &mut woken);
+        drop(run_state);
         self.ring(&woken);
         acted
     }

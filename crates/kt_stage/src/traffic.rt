@@ -1,14 +1,15 @@
 //! What is sought among the messages that are on their way, and among those that nodes keep back.
+//! Cited by asking.rt.
 
 ghost use Rattle.std.specs.Prelude.{◌≡◌, slice_get};
 ghost use Rattle.kt_core.specs.Lent.{kept};
-ghost use Rattle.kt_world.specs.State.{link};
+ghost use Rattle.kt_model.specs.State.{link};
 ghost use Rattle.kt_stage.specs.Traffic.{is_about, is_ask, is_kept, is_kept_of, is_on_link, is_sought};
-ghost use Rattle.kt_stage.specs.inner.Midway.{is_found};
+ghost use Rattle.kt_stage.specs.auxiliary.Midway.{is_found};
 ghost use Rattle.kt_stage.specs.Traffic.{number_in};
 
 use kt_core::World;
-use kt_node::{Ask, Message, Post, Talk};
+use kt_node::{AppMessage, Ask, Message, Talk};
 use kt_store::CkptStore;
 use kt_tuple::NodeId;
 
@@ -33,10 +34,10 @@ fn number_in(talk: &Talk) -> u64
     }
 }
 
-fn is_about(number: u64, post: &Post) -> bool
-    ensures { result ≡ is_about number post.now }
+fn is_about(number: u64, app: &AppMessage) -> bool
+    ensures { result ≡ is_about number app.now }
 {
-    number_in(&post.talk) == number
+    number_in(&app.talk) == number
 }
 
 fn is_ask(instance: u64, incarnation: u64, ask: &Ask) -> bool
@@ -51,7 +52,7 @@ impl Sought {
         ensures { result ≡ is_sought self message.now }
     {
         match (self, message) {
-            (Sought::Number(number), Message::Post(post)) => is_about(number, post),
+            (Sought::Number(number), Message::App(app)) => is_about(number, app),
             (
                 Sought::Ask {
                     instance,
@@ -112,7 +113,7 @@ pub(crate) fn is_on_link<S: CkptStore>(
 }
 
 /// Whether this is from the node, and has the number.
-fn is_kept_of(from: NodeId, number: u64, kept: &(NodeId, Post)) -> bool
+fn is_kept_of(from: NodeId, number: u64, kept: &(NodeId, AppMessage)) -> bool
     ensures { result ≡ is_kept_of from number kept.now }
 {
     kept.0 == from && is_about(number, &kept.1)

@@ -1,14 +1,15 @@
 //! Whom a step may have given something to do: only these are woken (docs/DECISIONS.md#threads).
+//! Cited by node_thread.rt, stage.rt.
 
 ghost use Rattle.std.specs.Prelude.{◌≡◌, ◌++◌, ◌∷◌, [], IfOk, OnErr};
 ghost use Rattle.kt_stage.specs.Acting.{IsActed};
 
 use crate::asking::{is_down, is_lost_request};
-use crate::desk::Desk;
 use crate::error::ActError;
+use crate::locked_journal::LockedJournal;
 use crate::naming::Naming;
 use crate::seat::{Receipt, Seat};
-use crate::stage::{Flags, Floor};
+use crate::stage::{Flags, RunState};
 use kt_core::{Step, World};
 use kt_node::Mode;
 use kt_store::CkptStore;
@@ -40,14 +41,14 @@ fn concerns<S: CkptStore>(world: &World<S>, step: Step, node: NodeId) -> bool {
 
 /// Marks the sleepers that the step, made last, may have given a next step: they sleep no more, and are to be woken.
 fn wake<S: CkptStore, L: Naming>(
-    desk: &Desk<S, L>,
+    locked: &LockedJournal<S, L>,
     step: Step,
     before: Option<Mode>,
     nodes: &[NodeId],
     asleep: &mut Flags,
     woken: &mut Flags,
 ) {
-    let world = &desk.journal.world;
+    let world = &locked.journal.world;
     let is_wide = concerns_all(world, step, before);
     for (place, node) in nodes.iter().enumerate() {
         if let (Some(sleeps), Some(wakes)) = (asleep.get_mut(place), woken.get_mut(place)) {
@@ -59,8 +60,8 @@ fn wake<S: CkptStore, L: Naming>(
     }
 }
 
-impl<S: CkptStore, L: Naming> Floor<S, L> {
-    /// Makes the step of the seat's node by `Desk::act`, and marks whom it may have given a next step.
+impl<S: CkptStore, L: Naming> RunState<S, L> {
+    /// Makes the step of the seat's node by `LockedJournal::act`, and marks whom it may have given a next step.
     pub(crate) fn act(
         &mut self,
         alloc: Global,
@@ -69,16 +70,16 @@ impl<S: CkptStore, L: Naming> Floor<S, L> {
         nodes: &[NodeId],
         woken: &mut Flags,
     ) -> Result<Receipt, ActError>
-        ensures acted { IsActed self.old.desk.journal self.new.desk.journal seat.old.node step result }
+        ensures acted { IsActed self.old.locked.journal self.new.locked.journal seat.old.node step result }
         ensures seat { IfOk result (λ r. seat.new.receipts ≡ seat.old.receipts ++ r ∷ []) }
         ensures same { OnErr result (seat.new.receipts ≡ seat.old.receipts) }
         ensures node { seat.new.node ≡ seat.old.node }
     {
         self.refused = None;
-        let Floor { desk, asleep, .. } = self;
-        let before = desk.journal.world.mode(step.owner());
-        let receipt = desk.act(alloc, seat, step)?;
-        wake(desk, step, before, nodes, asleep, woken);
+        let RunState { locked, asleep, .. } = self;
+        let before = locked.journal.world.mode(step.owner());
+        let receipt = locked.act(alloc, seat, step)?;
+        wake(locked, step, before, nodes, asleep, woken);
         Ok(receipt)
     }
 }

@@ -1,4 +1,5 @@
 -- What the counts of a store tell of its calls.
+-- Cited by no other file of crates/.
 use Rattle.std.proofs.Common.{◌≡◌, ◌⊎◌, inl, inr, ◌<◌, ◌≤◌, ℕ, ◌+◌, Bool, arith, refl, sym, subst}
 use Rattle.std.specs.Prelude.{Result, Ok, Err, OnOk, IfErr, IsErrOf}
 use Rattle.kt_store.specs.declared.error.StoreError.{StoreError}

@@ -1,4 +1,11 @@
 -- A fault counted beside those of the store below.
+-- Cited by faulty.rt, `FaultStoreCkptStore::begin_check`, `FaultStoreCkptStore::begin_restart`,
+--   `FaultStoreCkptStore::bump`, `FaultStoreCkptStore::decide`, `FaultStoreCkptStore::discard`,
+--   `FaultStoreCkptStore::incarnation`, `FaultStoreCkptStore::initiator`, `FaultStoreCkptStore::is_fresh`,
+--   `FaultStoreCkptStore::next_instance`, `FaultStoreCkptStore::nodes`, `FaultStoreCkptStore::open_of`,
+--   `FaultStoreCkptStore::permanent_header`, `FaultStoreCkptStore::permanent`, `FaultStoreCkptStore::promote`,
+--   `FaultStoreCkptStore::put_tentative`, `FaultStoreCkptStore::tentative_header`, `FaultStoreCkptStore::tentative`,
+--   `FaultStoreCkptStore::verdict`.
 use Rattle.std.proofs.Common.{◌≡◌, ◌∙◌, Bool, true, false, ◌||◌, ap, sym, refl}
 use Rattle.std.specs.Prelude.{Result, Ok, Err}
 use Rattle.kt_store.specs.declared.error.StoreError.{StoreError}
@@ -6,7 +13,7 @@ use Rattle.kt_store.specs.declared.error.StoreError.TheVariants.{Memory, Device,
 use Rattle.kt_store.specs.Calls.{Counts, HasCause, NeverFails, counted}
 use Rattle.kt_store.specs.declared.faulty.FaultStore.{FaultStore}
 use Rattle.kt_store.specs.declared.store.CkptStore.{Ghosts}
-use Rattle.kt_store.specs.inner.Failing.{with_fault}
+use Rattle.kt_store.specs.auxiliary.Failing.{with_fault}
 
 -- it is one to the counts whether it came before an answer or after it
 fault-counted : {T : Type 0} (b : Bool) (r : Result T StoreError) (c : Counts) → with_fault b (counted r c) ≡ counted r (with_fault b c)

@@ -1,4 +1,5 @@
 -- The rows of nodes: one that is changed where it stands, and one that is put among the others.
+-- Cited by OtherNodes, `Contents::incarnation_of`, `change::change_row`, `change::insert_row`; kt_sql_tables.
 use Rattle.std.proofs.Common.{◌≡◌, ℕ, ◌<◌, ◌≤◌, Bool, true, false, cond, List, [], ◌∷◌, ◌++◌, set, insert, length, get_or, All}
 use Rattle.std.proofs.Common.{AllPairs, None, Some, refl, sym, ap, arith, suc, le_of_lt, subst, Result, Ok, Err, OnOk, OnErr}
 use Rattle.std.specs.List.{find, position, slice_get}
@@ -12,7 +13,7 @@ use Rattle.kt_store.specs.declared.change.Change.TheVariants.{Incarnation, Take,
 use Rattle.kt_store.specs.Content.{row_or, greatest}
 use Rattle.kt_store.specs.Proper.{IsNodes}
 use Rattle.kt_store.specs.Changes.{with_row}
-use Rattle.kt_store.specs.inner.Row.{changed, IsWithin}
+use Rattle.kt_store.specs.auxiliary.Row.{changed, IsWithin}
 use Rattle.kt_store.proofs.Tables.{IsOrder, placed_all, placed_among, placed_at, placed_last, placed_rising, none_passes, position_none}
 
 pub one_way : (a b : NodeId) → is_before a b ≡ true → is_before b a ≡ false

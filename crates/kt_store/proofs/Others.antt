@@ -1,4 +1,5 @@
 -- What a row in its place is to those that read: of its own key it is the row, of every other key nothing changed.
+-- Cited by OtherInstances, OtherNodes.
 use Rattle.std.proofs.Common.{◌≡◌, Bool, true, false, cond, List, [], ◌∷◌, ◌++◌, filter, None, Some, refl, sym, ap, ◌∙◌, true≢false}
 use Rattle.std.specs.List.{find}
 use Rattle.std.proofs.lemmas.Option.{none-some}

@@ -1,15 +1,18 @@
 -- What each write of a store makes of its content.
+-- Cited by Board, Nodes, OtherInstances, OtherNodes, change.rt, contents.rt, instance_row.rt, laws.rt,
+--   specs/auxiliary/Row, store.rt, `Contents::settle`, `FaultStoreCkptStore::begin_restart`,
+--   `FaultStoreCkptStore::bump`, `change::change_row`; kt_model, kt_refinement, kt_sql, kt_sql_tables.
 use Rattle.std.specs.Prelude.{ℕ, ◌+◌, nat_lt, Bool, List, ◌∷◌, ◌++◌, filter, Option, None, Some}
 use Rattle.kt_tuple.specs.declared.node.NodeId.{NodeId}
 use Rattle.kt_ckpt.specs.declared.ckpt.Ckpt.{Ckpt}
 use Rattle.kt_store.specs.declared.rows.NodeRow.{NodeRow}
 use Rattle.kt_store.specs.declared.rows.Tentative.{Tentative}
-use Rattle.kt_store.specs.declared.rows.Posted.{Posted}
+use Rattle.kt_store.specs.declared.rows.InstanceRow.{InstanceRow}
 use Rattle.kt_store.specs.declared.rows.Purpose.{Purpose}
 use Rattle.kt_store.specs.declared.rows.Purpose.TheVariants as purposes
 use Rattle.kt_store.specs.declared.rows.Verdict.TheVariants as verdicts
 use Rattle.kt_store.specs.Verdict.{verdict_from}
-use Rattle.kt_store.specs.Content.{Content, next_instance, posted, row_of}
+use Rattle.kt_store.specs.Content.{Content, next_instance, instance_row, row_of}
 use Rattle.kt_tuple.specs.Node.{is_before}
 
 -- the rows with this one in its place, and with no other of its node
@@ -18,9 +21,9 @@ with_row new rows = filter (λ (row : NodeRow). is_before row.node new.node) row
     ++ new ∷ filter (λ (row : NodeRow). is_before new.node row.node) rows
 
 -- the same of the board
-abbrev pub with_posted : Posted → List Posted → List Posted
-with_posted new rows = filter (λ (row : Posted). nat_lt row.instance new.instance) rows
-    ++ new ∷ filter (λ (row : Posted). nat_lt new.instance row.instance) rows
+abbrev pub with_instance_row : InstanceRow → List InstanceRow → List InstanceRow
+with_instance_row new rows = filter (λ (row : InstanceRow). nat_lt row.instance new.instance) rows
+    ++ new ∷ filter (λ (row : InstanceRow). nat_lt new.instance row.instance) rows
 
 -- the node's row is this one
 abbrev pub storing : NodeRow → Content → Content
@@ -29,7 +32,12 @@ storing new c = record c { nodes = with_row new c.nodes }
 -- the next instance is begun by the node
 abbrev pub opening : NodeId → Purpose → Content → Content
 opening p purpose c = record c {
-  board = with_posted record { instance = next_instance c; initiator = p; purpose = purpose; verdict = verdicts.Open }
+  board = with_instance_row record {
+    instance = next_instance c;
+    initiator = p;
+    purpose = purpose;
+    verdict = verdicts.Open;
+  }
       c.board;
 }
 
@@ -68,10 +76,13 @@ bumped p c = storing record (row_of c p) { incarnation = (row_of c p).incarnatio
 abbrev pub restart_begun : NodeId → Content → Content
 restart_begun p c = opening p purposes.Rollback (bumped p c)
 
-abbrev pub deciding : Bool → Option Posted → Content → Content
+abbrev pub deciding : Bool → Option InstanceRow → Content → Content
 deciding agreed None c = c
-deciding agreed (Some row) c = record c { board = with_posted record row { verdict = verdict_from agreed } c.board }
+deciding agreed (Some row) c = record c {
+  board = with_instance_row record row { verdict = verdict_from agreed }
+      c.board;
+}
 
 -- the instance has its verdict
 abbrev pub decided : ℕ → Bool → Content → Content
-decided i agreed c = deciding agreed (posted c i) c
+decided i agreed c = deciding agreed (instance_row c i) c

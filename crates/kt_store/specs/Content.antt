@@ -1,22 +1,29 @@
 -- What a store holds, and what its reads give.
+-- kt_sql_tables,
+--   kt_model, linda_kt.
+-- Cited by Board, Nodes, Numbered, OtherInstances, OtherNodes, change.rt, contents.rt, instance_row.rt, laws.rt,
+--   memory.rt, rows.rt, specs/Changes, specs/Others, specs/Proper, specs/Stored, specs/auxiliary/Row, store.rt,
+--   `Contents::incarnation_of`, `Contents::next_number`, `Contents::open_instance_of`, `Contents::settle`,
+--   `change::change_row`; kt_command, kt_core, kt_model, kt_refinement, kt_resume, kt_run, kt_scene, kt_sql,
+--   kt_sql_tables, kt_stage, linda_kt.
 use Rattle.std.specs.Prelude.{◌≡◌, ℕ, ◌+◌, ◌==◌, ◌^◌, max, Bool, true, false, ◌&&◌}
 use Rattle.std.specs.Prelude.{List, [], ◌∷◌, map, fold, Option, None, Some}
 use Rattle.std.specs.List.{find}
 use Rattle.std.specs.Option.{option_map}
 use Rattle.kt_tuple.specs.declared.node.NodeId.{NodeId}
 use Rattle.kt_tuple.specs.Node.{node_eq}
-use Rattle.kt_ckpt.specs.Marks.{MarkFields, marks_of}
+use Rattle.kt_ckpt.specs.Header.{HeaderFields, header_of}
 use Rattle.kt_store.specs.declared.rows.NodeRow.{NodeRow}
 use Rattle.kt_store.specs.declared.rows.Tentative.{Tentative}
-use Rattle.kt_store.specs.declared.rows.TentativeMarks.{TentativeMarks}
-use Rattle.kt_store.specs.declared.rows.Posted.{Posted}
+use Rattle.kt_store.specs.declared.rows.TentativeHeader.{TentativeHeader}
+use Rattle.kt_store.specs.declared.rows.InstanceRow.{InstanceRow}
 use Rattle.kt_store.specs.declared.rows.Verdict.{Verdict}
 use Rattle.kt_store.specs.Verdict.{is_open}
 
 -- rows of nodes in node order, and of instances in the order of their numbers
 pub record Content : Type 0 where
   pub nodes : List NodeRow
-  pub board : List Posted
+  pub board : List InstanceRow
 
 -- nothing was ever stored, and no instance was begun
 abbrev pub empty_content : Content
@@ -38,38 +45,38 @@ abbrev pub row_of : Content → NodeId → NodeRow
 row_of c p = row_or p (find (λ (row : NodeRow). node_eq row.node p) c.nodes)
 
 -- a tentative checkpoint without its node's state
-abbrev pub marks_in : Tentative → TentativeMarks
-marks_in t = record { instance = t.instance; marks = marks_of t.checkpoint }
+abbrev pub header_in : Tentative → TentativeHeader
+header_in t = record { instance = t.instance; header = header_of t.checkpoint }
 
 -- what the stored checkpoints of the node say besides its state
-abbrev pub permanent_marks : Content → NodeId → Option MarkFields
-permanent_marks c p = option_map marks_of (row_of c p).permanent
+abbrev pub permanent_header : Content → NodeId → Option HeaderFields
+permanent_header c p = option_map header_of (row_of c p).permanent
 
-abbrev pub tentative_marks : Content → NodeId → Option TentativeMarks
-tentative_marks c p = option_map marks_in (row_of c p).tentative
+abbrev pub tentative_header : Content → NodeId → Option TentativeHeader
+tentative_header c p = option_map header_in (row_of c p).tentative
 
 -- the nodes that have a row, in node order
 abbrev pub nodes_in : Content → List NodeId
 nodes_in c = map (λ (row : NodeRow). row.node) c.nodes
 
--- what is posted of an instance, if it was begun
-abbrev pub posted : Content → ℕ → Option Posted
-posted c i = find (λ (row : Posted). row.instance == i) c.board
+-- what the board has of an instance, if it was begun
+abbrev pub instance_row : Content → ℕ → Option InstanceRow
+instance_row c i = find (λ (row : InstanceRow). row.instance == i) c.board
 
 abbrev pub verdict_of : Content → ℕ → Option Verdict
-verdict_of c i = option_map (λ (row : Posted). row.verdict) (posted c i)
+verdict_of c i = option_map (λ (row : InstanceRow). row.verdict) (instance_row c i)
 
 abbrev pub initiator_of : Content → ℕ → Option NodeId
-initiator_of c i = option_map (λ (row : Posted). row.initiator) (posted c i)
+initiator_of c i = option_map (λ (row : InstanceRow). row.initiator) (instance_row c i)
 
 -- the first instance that the node began and that has no verdict
 abbrev pub open_of : Content → NodeId → Option ℕ
-open_of c p = option_map (λ (row : Posted). row.instance)
-    (find (λ (row : Posted). node_eq row.initiator p && is_open row.verdict) c.board)
+open_of c p = option_map (λ (row : InstanceRow). row.instance)
+    (find (λ (row : InstanceRow). node_eq row.initiator p && is_open row.verdict) c.board)
 
 -- one more than the greatest number of an instance, 1 where there is none
 abbrev pub next_instance : Content → ℕ
-next_instance c = fold max 0 (map (λ (row : Posted). row.instance) c.board) + 1
+next_instance c = fold max 0 (map (λ (row : InstanceRow). row.instance) c.board) + 1
 
 abbrev pub is_empty : {A : Type 0} → List A → Bool
 is_empty [] = true

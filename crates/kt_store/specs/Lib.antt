@@ -5,4 +5,4 @@ pub mod Proper
 pub mod Calls
 pub mod Stored
 pub mod Others
-pub mod inner
+pub mod auxiliary

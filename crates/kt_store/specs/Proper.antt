@@ -1,14 +1,18 @@
 -- What the rows of a store keep, whatever was written: they are in order, and no number is above the greatest. And when
 -- no number is left.
+-- kt_core, kt_sql,
+--   kt_stage, kt_sql_tables, kt_model.
+-- Cited by Board, Nodes, Numbered, change.rt, contents.rt, instance_row.rt, store.rt,
+--   `instance_row::add_instance_row`; kt_core, kt_model, kt_sql, kt_sql_tables, kt_stage.
 use Rattle.std.specs.Prelude.{◌≡◌, ◌+◌, ◌≤◌, true, nat_lt, List, All, AllPairs}
 use Rattle.kt_tuple.specs.declared.node.NodeId.{NodeId}
 use Rattle.kt_tuple.specs.Node.{is_before}
 use Rattle.kt_store.specs.declared.rows.NodeRow.{NodeRow}
-use Rattle.kt_store.specs.declared.rows.Posted.{Posted}
+use Rattle.kt_store.specs.declared.rows.InstanceRow.{InstanceRow}
 use Rattle.kt_store.specs.Content.{Content, greatest, next_instance, row_of}
 
 -- the numbers of instances rise, and none is above the greatest
-pub record IsBoard (board : List Posted) : Type 0 where
+pub record IsBoard (board : List InstanceRow) : Type 0 where
   pub rising : AllPairs (λ a b. nat_lt a.instance b.instance ≡ true) board
   pub within : All (λ row. row.instance ≤ greatest) board
 

@@ -1,4 +1,5 @@
 -- A store in memory, as its callers see it.
+-- Cited by memory.rt; kt_command.
 use Rattle.std.specs.Prelude.{ℕ}
 use Rattle.kt_store.specs.Content.{Content}
 

@@ -1,4 +1,5 @@
 //! One change of a node's row, in a table whose rows stand in node order.
+//! Cited by contents.rt, memory.rt.
 
 ghost use Rattle.std.specs.Prelude.{◌≡◌, ◌<◌, length, AllPairs, None, IfSome, OnErr, OnOk, true};
 ghost use Rattle.std.specs.List.{find, position};
@@ -7,7 +8,7 @@ ghost use Rattle.kt_store.specs.declared.rows.NodeRow.{NodeRow};
 ghost use Rattle.kt_store.specs.Content.{row_or};
 ghost use Rattle.kt_store.specs.Proper.{IsNodes};
 ghost use Rattle.kt_store.specs.Changes.{with_row};
-ghost use Rattle.kt_store.specs.inner.Row.{changed, IsWithin};
+ghost use Rattle.kt_store.specs.auxiliary.Row.{changed, IsWithin};
 
 use crate::rows::{NodeRow, Tentative};
 use kt_tuple::NodeId;

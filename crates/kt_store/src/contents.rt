@@ -1,4 +1,5 @@
 //! What a store in memory holds: the rows of nodes, and the board.
+//! Cited by crossing.rt, memory.rt.
 
 ghost use Rattle.std.specs.Prelude.{◌≡◌, ◌+◌, OnOk, OnErr, IfOk};
 ghost use Rattle.std.specs.Prelude.{◌<◌, ◌≤◌, ◌==◌, ◌&&◌};
@@ -6,21 +7,21 @@ ghost use Rattle.std.specs.Option.{option_copied};
 ghost use Rattle.std.specs.List.{find};
 ghost use Rattle.kt_tuple.specs.declared.node.NodeId.{NodeId};
 ghost use Rattle.kt_tuple.specs.Node.{node_eq};
-ghost use Rattle.kt_store.specs.declared.posted.Opened.{Opened};
+ghost use Rattle.kt_store.specs.declared.instance_row.Opened.{Opened};
 ghost use Rattle.kt_store.specs.declared.rows.NodeRow.{NodeRow};
-ghost use Rattle.kt_store.specs.declared.rows.Posted.{Posted};
+ghost use Rattle.kt_store.specs.declared.rows.InstanceRow.{InstanceRow};
 ghost use Rattle.kt_store.specs.Content.{row_of, verdict_of, initiator_of, open_of, next_instance};
 ghost use Rattle.kt_store.specs.Proper.{IsBoard};
-ghost use Rattle.kt_store.specs.inner.Rising.{IsNumbered, opened};
-ghost use Rattle.kt_store.specs.Content.{is_fresh, greatest, nodes_in, permanent_marks, tentative_marks};
+ghost use Rattle.kt_store.specs.auxiliary.Rising.{IsNumbered, opened};
+ghost use Rattle.kt_store.specs.Content.{is_fresh, greatest, nodes_in, permanent_header, tentative_header};
 ghost use Rattle.kt_store.specs.Proper.{IsProper};
 ghost use Rattle.kt_store.specs.Changes.{decided, opening, storing};
-ghost use Rattle.kt_store.specs.inner.Row.{changed, IsWithin};
+ghost use Rattle.kt_store.specs.auxiliary.Row.{changed, IsWithin};
 
 use crate::change::{Change, change_row};
-use crate::posted::{Opened, opened_at, place_of, post, posted_at};
-use crate::rows::{NodeRow, Posted, Purpose, Tentative, TentativeMarks, Verdict};
-use kt_ckpt::{Ckpt, Marks};
+use crate::instance_row::{Opened, add_instance_row, instance_row_at, opened_at, place_of};
+use crate::rows::{InstanceRow, NodeRow, Purpose, Tentative, TentativeHeader, Verdict};
+use kt_ckpt::{Ckpt, CkptHeader};
 use kt_tuple::NodeId;
 use std::alloc::{AllocError, Global};
 use std::marker::Model;
@@ -30,7 +31,7 @@ use std::marker::Model;
 pub(crate) struct Contents {
     nodes: Vec<NodeRow>,
     // The rows are numbered 1, 2, .. in their order, so that a row is found by its number without a search.
-    board: Vec<Posted>,
+    board: Vec<InstanceRow>,
     // The rows of the board without a verdict: few, however long the board is.
     undecided: Vec<Opened>,
 }
@@ -39,7 +40,7 @@ impl Model for Contents {
     ghost use Rattle.std.specs.Prelude.{◌≡◌};
     ghost use Rattle.kt_store.specs.Content.{Content};
     ghost use Rattle.kt_store.specs.Proper.{IsBoard, IsNodes};
-    ghost use Rattle.kt_store.specs.inner.Rising.{IsNumbered, opened};
+    ghost use Rattle.kt_store.specs.auxiliary.Rising.{IsNumbered, opened};
 
     ghost Value = { Content };
 
@@ -71,7 +72,7 @@ impl Contents {
     }
 
     /// The board.
-    pub(crate) fn board(&self) -> &[Posted]
+    pub(crate) fn board(&self) -> &[InstanceRow]
         ensures { result.now ≡ self.now.board }
     {
         &self.board
@@ -116,16 +117,16 @@ impl Contents {
         }
     }
 
-    /// The marks of the node's permanent checkpoint, which they share.
-    pub(crate) fn permanent_marks_of(
+    /// The header of the node's permanent checkpoint, which it shares.
+    pub(crate) fn permanent_header_of(
         &self,
         alloc: Global,
         node: NodeId,
-    ) -> Result<Option<Marks>, AllocError>
-        ensures { IfOk result (λ m. m ≡ permanent_marks self.now node) }
+    ) -> Result<Option<CkptHeader>, AllocError>
+        ensures { IfOk result (λ m. m ≡ permanent_header self.now node) }
     {
         match self.permanent_at(node) {
-            Some(checkpoint) => Ok(Some(checkpoint.marks(alloc)?)),
+            Some(checkpoint) => Ok(Some(checkpoint.header(alloc)?)),
             None => Ok(None),
         }
     }
@@ -143,15 +144,15 @@ impl Contents {
         }
     }
 
-    pub(crate) fn tentative_marks_of(
+    pub(crate) fn tentative_header_of(
         &self,
         alloc: Global,
         node: NodeId,
-    ) -> Result<Option<TentativeMarks>, AllocError>
-        ensures { IfOk result (λ m. m ≡ tentative_marks self.now node) }
+    ) -> Result<Option<TentativeHeader>, AllocError>
+        ensures { IfOk result (λ m. m ≡ tentative_header self.now node) }
     {
         match self.tentative_at(node) {
-            Some(tentative) => Ok(Some(tentative.marks(alloc)?)),
+            Some(tentative) => Ok(Some(tentative.header(alloc)?)),
             None => Ok(None),
         }
     }
@@ -159,13 +160,13 @@ impl Contents {
     pub(crate) fn verdict_of(&self, instance: u64) -> Option<Verdict>
         ensures { result ≡ verdict_of self.now instance }
     {
-        Some(posted_at(&self.board, instance)?.verdict)
+        Some(instance_row_at(&self.board, instance)?.verdict)
     }
 
     pub(crate) fn initiator_of(&self, instance: u64) -> Option<NodeId>
         ensures { result ≡ initiator_of self.now instance }
     {
-        Some(posted_at(&self.board, instance)?.initiator)
+        Some(instance_row_at(&self.board, instance)?.initiator)
     }
 
     pub(crate) fn open_instance_of(&self, node: NodeId) -> Option<u64>
@@ -225,13 +226,13 @@ impl Contents {
         self.board.reserve(1)?;
         self.undecided.reserve(1)?;
         change_row(&mut self.nodes, node, change)?;
-        let new = Posted {
+        let new = InstanceRow {
             instance,
             initiator: node,
             purpose,
             verdict: Verdict::Open,
         };
-        post(&mut self.board, &mut self.undecided, new);
+        add_instance_row(&mut self.board, &mut self.undecided, new);
         Ok(())
     }
 

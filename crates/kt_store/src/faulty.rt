@@ -1,12 +1,13 @@
 //! A store of which one call fails, to try what stands on a store.
+//! Cited by whoever calls the trait `CkptStore`.
 
 ghost use Rattle.std.specs.Prelude.{◌≡◌, ◌↔◌, ◌-◌, ◌||◌, false, IsTrue};
-ghost use Rattle.kt_store.specs.inner.Failing.{with_fault};
+ghost use Rattle.kt_store.specs.auxiliary.Failing.{with_fault};
 
 use crate::error::StoreError;
-use crate::rows::{Tentative, TentativeMarks, Verdict};
+use crate::rows::{Tentative, TentativeHeader, Verdict};
 use crate::store::CkptStore;
-use kt_ckpt::{Ckpt, Marks};
+use kt_ckpt::{Ckpt, CkptHeader};
 use kt_tuple::NodeId;
 use std::alloc::Global;
 
@@ -112,26 +113,26 @@ impl<S: CkptStore> CkptStore for FaultStore<S> {
         self.inner.tentative(alloc, node)
     }
 
-    fn permanent_marks(
+    fn permanent_header(
         &mut self,
         alloc: Global,
         node: NodeId,
-    ) -> Result<Option<Marks>, StoreError> {
+    ) -> Result<Option<CkptHeader>, StoreError> {
         if self.fails() {
             return Err(StoreError::Device);
         }
-        self.inner.permanent_marks(alloc, node)
+        self.inner.permanent_header(alloc, node)
     }
 
-    fn tentative_marks(
+    fn tentative_header(
         &mut self,
         alloc: Global,
         node: NodeId,
-    ) -> Result<Option<TentativeMarks>, StoreError> {
+    ) -> Result<Option<TentativeHeader>, StoreError> {
         if self.fails() {
             return Err(StoreError::Device);
         }
-        self.inner.tentative_marks(alloc, node)
+        self.inner.tentative_header(alloc, node)
     }
 
     fn verdict(&mut self, instance: u64) -> Result<Option<Verdict>, StoreError> {

@@ -1,17 +1,18 @@
 //! Laws about what writes make of a store's content, each the contract of a function with nothing to do. That other
 //! nodes and instances stay is said here of the changes, and in no clause of a call: a clause says the whole content,
 //! and a law holds of every store (docs/DECISIONS.md#stores).
+//! Cited by no other file of crates/.
 
 ghost use Rattle.std.specs.Prelude.{◌≡◌, ℕ, Bool, Some};
 ghost use Rattle.std.specs.Option.{option_map};
 ghost use Rattle.kt_tuple.specs.declared.node.NodeId.{NodeId};
 ghost use Rattle.kt_ckpt.specs.declared.ckpt.Ckpt.{Ckpt};
 ghost use Rattle.kt_store.specs.declared.rows.NodeRow.{NodeRow};
-ghost use Rattle.kt_store.specs.declared.rows.Posted.{Posted};
+ghost use Rattle.kt_store.specs.declared.rows.InstanceRow.{InstanceRow};
 ghost use Rattle.kt_store.specs.declared.rows.Purpose.{Purpose};
 ghost use Rattle.kt_store.specs.declared.rows.Verdict.TheVariants as verdicts;
 ghost use Rattle.kt_store.specs.Verdict.{verdict_from};
-ghost use Rattle.kt_store.specs.Content.{Content, next_instance, posted, row_of};
+ghost use Rattle.kt_store.specs.Content.{Content, next_instance, instance_row, row_of};
 ghost use Rattle.kt_store.specs.Changes.{bumped, check_begun, decided, discarded, opening, promoted, restart_begun};
 ghost use Rattle.kt_store.specs.Changes.{storing, tentative_put};
 ghost use Rattle.kt_store.specs.Others.{OtherInstancesStay, OtherNodesStay};
@@ -48,9 +49,9 @@ pub fn other_instances_stay()
 pub fn what_is_written_is_read()
     ensures stored { (row : NodeRow) (c : Content) → row_of (storing row c) row.node ≡ row }
     ensures begun { (p : NodeId) (purpose : Purpose) (c : Content)
-        → posted (opening p purpose c) (next_instance c)
+        → instance_row (opening p purpose c) (next_instance c)
         ≡ Some record { instance = next_instance c; initiator = p; purpose = purpose; verdict = verdicts.Open } }
     ensures decided { (i : ℕ) (agreed : Bool) (c : Content)
-        → posted (decided i agreed c) i
-        ≡ option_map (λ (row : Posted). record row { verdict = verdict_from agreed }) (posted c i) }
+        → instance_row (decided i agreed c) i
+        ≡ option_map (λ (row : InstanceRow). record row { verdict = verdict_from agreed }) (instance_row c i) }
 {}

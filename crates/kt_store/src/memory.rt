@@ -1,4 +1,6 @@
 //! A store in memory.
+//! Cited by crossing.rt; kt_command, kt_memory_tests, kt_sql, kt_sql_tables, linda_kt; whoever calls the trait
+//!   `CkptStore`.
 
 ghost use Rattle.std.specs.Prelude.{◌≡◌, Ok, Err, IfOk, IfErr};
 ghost use Rattle.kt_store.specs.Calls.{raised};
@@ -6,9 +8,9 @@ ghost use Rattle.kt_store.specs.Calls.{raised};
 use crate::change::Change;
 use crate::contents::Contents;
 use crate::error::StoreError;
-use crate::rows::{NodeRow, Posted, Purpose, Tentative, TentativeMarks, Verdict};
+use crate::rows::{InstanceRow, NodeRow, Purpose, Tentative, TentativeHeader, Verdict};
 use crate::store::CkptStore;
-use kt_ckpt::{Ckpt, Marks};
+use kt_ckpt::{Ckpt, CkptHeader};
 use kt_tuple::NodeId;
 use std::alloc::{AllocError, Global};
 use std::marker::Model;
@@ -54,7 +56,7 @@ impl MemStore {
     }
 
     /// The rows of the board, in the order of their instances.
-    pub fn board(&self) -> &[Posted]
+    pub fn board(&self) -> &[InstanceRow]
         ensures { result.now ≡ self.now.content.board }
     {
         self.contents.board()
@@ -96,21 +98,21 @@ impl CkptStore for MemStore {
         count(&mut self.wants, answer)
     }
 
-    fn permanent_marks(
+    fn permanent_header(
         &mut self,
         alloc: Global,
         node: NodeId,
-    ) -> Result<Option<Marks>, StoreError> {
-        let answer = self.contents.permanent_marks_of(alloc, node);
+    ) -> Result<Option<CkptHeader>, StoreError> {
+        let answer = self.contents.permanent_header_of(alloc, node);
         count(&mut self.wants, answer)
     }
 
-    fn tentative_marks(
+    fn tentative_header(
         &mut self,
         alloc: Global,
         node: NodeId,
-    ) -> Result<Option<TentativeMarks>, StoreError> {
-        let answer = self.contents.tentative_marks_of(alloc, node);
+    ) -> Result<Option<TentativeHeader>, StoreError> {
+        let answer = self.contents.tentative_header_of(alloc, node);
         count(&mut self.wants, answer)
     }
 

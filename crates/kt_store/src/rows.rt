@@ -1,8 +1,10 @@
 //! What a store holds, row by row.
+//! Cited by change.rt, contents.rt, crossing.rt, faulty.rt, instance_row.rt, memory.rt, store.rt; kt_core, kt_model,
+//!   kt_node, kt_sql, kt_sql_tables, kt_state.
 
 ghost use Rattle.std.specs.Prelude.{◌≡◌, IfOk};
 
-use kt_ckpt::{Ckpt, Marks};
+use kt_ckpt::{Ckpt, CkptHeader};
 use kt_tuple::NodeId;
 use std::alloc::{AllocError, Global};
 
@@ -57,9 +59,9 @@ pub struct Tentative {
 }
 
 impl Tentative {
-    ghost use Rattle.kt_store.specs.Content.{marks_in};
+    ghost use Rattle.kt_store.specs.Content.{header_in};
 
-    /// An equal tentative checkpoint, which shares marks and state with this one: it takes no memory.
+    /// An equal tentative checkpoint, which shares header and state with this one: it takes no memory.
     pub fn copy(&self, alloc: Global) -> Result<Tentative, AllocError>
         ensures { IfOk result (λ t. t ≡ self.now) }
     {
@@ -70,23 +72,23 @@ impl Tentative {
     }
 
     /// Its instance, and its checkpoint without the node's state. It takes no memory.
-    pub fn marks(&self, alloc: Global) -> Result<TentativeMarks, AllocError>
-        ensures { IfOk result (λ m. m ≡ marks_in self.now) }
+    pub fn header(&self, alloc: Global) -> Result<TentativeHeader, AllocError>
+        ensures { IfOk result (λ m. m ≡ header_in self.now) }
     {
-        Ok(TentativeMarks {
+        Ok(TentativeHeader {
             instance: self.instance,
-            marks: self.checkpoint.marks(alloc)?,
+            header: self.checkpoint.header(alloc)?,
         })
     }
 }
 
 /// What a tentative checkpoint says besides its node's state.
 #[derive(Debug, Drop)]
-pub struct TentativeMarks {
+pub struct TentativeHeader {
     /// The number of the check in which it was taken.
     pub instance: u64,
     /// What its checkpoint says besides the node's state.
-    pub marks: Marks,
+    pub header: CkptHeader,
 }
 
 /// What is stored of a node; one without a row is in incarnation 1 and has nothing stored.
@@ -104,7 +106,7 @@ pub struct NodeRow {
 
 /// An instance, as the board has it.
 #[derive(Clone, Copy, Debug)]
-pub struct Posted {
+pub struct InstanceRow {
     /// Its number, from 1 on, at most 2^62.
     pub instance: u64,
     /// The node that began it, and that gives it its verdict.

@@ -1,17 +1,19 @@
 //! What a store of checkpoints and verdicts promises.
+//! Cited by faulty.rt, memory.rt; kt_command, kt_core, kt_run, kt_scene, kt_sql, kt_stage, linda_kt.
 
 ghost use Rattle.std.specs.Prelude.{◌≡◌, ◌⊎◌, ◌+◌, ◌≤◌, ℕ, Bool, None, Some, false, IsTrue, IsErrOf, IfOk, OnOk, OnErr};
 ghost use Rattle.kt_store.specs.declared.rows.Verdict.TheVariants as verdicts;
-ghost use Rattle.kt_store.specs.Content.{Content, HasVerdict, greatest, initiator_of, is_fresh, next_instance, nodes_in};
-ghost use Rattle.kt_store.specs.Content.{open_of, permanent_marks, row_of, tentative_marks, verdict_of};
+ghost use Rattle.kt_store.specs.Content.{Content, HasVerdict, greatest, initiator_of, is_fresh, next_instance};
+ghost use Rattle.kt_store.specs.Content.{nodes_in};
+ghost use Rattle.kt_store.specs.Content.{open_of, permanent_header, row_of, tentative_header, verdict_of};
 ghost use Rattle.kt_store.specs.Changes.{bumped, check_begun, decided, discarded};
 ghost use Rattle.kt_store.specs.Changes.{promoted, restart_begun, tentative_put};
 ghost use Rattle.kt_store.specs.Proper.{IsProper};
 ghost use Rattle.kt_store.specs.Calls.{Counts, HasCause, NeverFails};
 
 use crate::error::StoreError;
-use crate::rows::{Tentative, TentativeMarks, Verdict};
-use kt_ckpt::{Ckpt, Marks};
+use crate::rows::{Tentative, TentativeHeader, Verdict};
+use kt_ckpt::{Ckpt, CkptHeader};
 use kt_tuple::NodeId;
 use std::alloc::Global;
 
@@ -80,8 +82,12 @@ pub trait CkptStore {
     /// The permanent checkpoint of the node without the node's state, if one is stored. It is a call of its own, so
     /// that in memory it costs nothing that grows with the state; a store in SQL reads the row whole
     /// (docs/DECISIONS.md#stores).
-    fn permanent_marks(&mut self, alloc: Global, node: NodeId) -> Result<Option<Marks>, StoreError>
-        ensures value { IsTrue (is_honest self.new) → IfOk result (λ m. m ≡ permanent_marks (content self.old) node) }
+    fn permanent_header(
+        &mut self,
+        alloc: Global,
+        node: NodeId,
+    ) -> Result<Option<CkptHeader>, StoreError>
+        ensures value { IsTrue (is_honest self.new) → IfOk result (λ m. m ≡ permanent_header (content self.old) node) }
         ensures same { IsTrue (is_honest self.new) → content self.new ≡ content self.old }
         ensures honest { IsTrue (is_honest self.new) → IsTrue (is_honest self.old) }
         ensures lasts { NeverFails failures → IsTrue (is_honest self.old) → IsTrue (is_honest self.new) }
@@ -89,12 +95,12 @@ pub trait CkptStore {
         ensures cause { HasCause (counts self.old) (counts self.new) (is_honest self.new) ⊥ result };
 
     /// The tentative checkpoint of the node with its instance and without the node's state, if one is stored.
-    fn tentative_marks(
+    fn tentative_header(
         &mut self,
         alloc: Global,
         node: NodeId,
-    ) -> Result<Option<TentativeMarks>, StoreError>
-        ensures value { IsTrue (is_honest self.new) → IfOk result (λ m. m ≡ tentative_marks (content self.old) node) }
+    ) -> Result<Option<TentativeHeader>, StoreError>
+        ensures value { IsTrue (is_honest self.new) → IfOk result (λ m. m ≡ tentative_header (content self.old) node) }
         ensures same { IsTrue (is_honest self.new) → content self.new ≡ content self.old }
         ensures honest { IsTrue (is_honest self.new) → IsTrue (is_honest self.old) }
         ensures lasts { NeverFails failures → IsTrue (is_honest self.old) → IsTrue (is_honest self.new) }

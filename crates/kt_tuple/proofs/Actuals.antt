@@ -1,4 +1,5 @@
 -- Actuals admit their own values alone.
+-- Cited by `Template::of`.
 use Rattle.std.proofs.Common.{◌≡◌, List, [], ◌∷◌, map, refl}
 use Rattle.kt_tuple.specs.declared.template.Place.TheVariants.{Actual}
 use Rattle.kt_tuple.specs.declared.value.Value.{Value}

@@ -1,4 +1,5 @@
 -- What each error of a text says of it, by the grammar.
+-- Cited by parsing.rt.
 use Rattle.std.proofs.Common.{◌≡◌, ℕ, List, Some, None}
 use Rattle.kt_tuple.specs.declared.parse_error.ParseError.{ParseError}
 use Rattle.kt_tuple.specs.declared.parse_error.ParseError.TheVariants as faults

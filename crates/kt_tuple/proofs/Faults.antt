@@ -1,4 +1,5 @@
 -- No fault is found where each place is in range and short, and there are at most `MAX_PLACES`.
+-- Cited by Exact, Findings, Making, TextFaults, Wholes, WholesRead.
 use Rattle.std.proofs.Common.{◌≡◌, ℕ, ◌+◌, ◌<◌, ◌≤◌, Bool, true, false, not, cond, ltb, List, [], ◌∷◌, length}
 use Rattle.std.proofs.Common.{Option, Some, None, Result, Ok, Err, refl, arith}
 use Rattle.std.proofs.lemmas.Bool.{or_parts, or_from, not-false, not_from_true, ltb-false, le-ltb}

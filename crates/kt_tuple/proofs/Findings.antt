@@ -1,4 +1,5 @@
 -- What the parser finds place by place is what the definitions say of all places together.
+-- Cited by parsing.rt.
 use Rattle.std.proofs.Common.{◌≡◌, ℕ, ◌+◌, ◌-◌, ◌≤◌, Bool, true, false, not, cond, ◌||◌, ltb, leb, List, [], ◌∷◌, length}
 use Rattle.std.proofs.Common.{Option, Some, None, Result, Ok, Err, refl, sym, ap, subst, ◌∙◌, arith, zero-add}
 use Rattle.std.proofs.lemmas.Bool.{or_left, or_right, leb-true, leb-false, lt-ltb, le-ltb}
@@ -7,7 +8,7 @@ use Rattle.kt_tuple.specs.declared.parse_error.ParseError.TheVariants as faults
 use Rattle.kt_tuple.specs.declared.parsing.Findings.{Findings}
 use Rattle.kt_tuple.specs.Reading.{has_range, is_short}
 use Rattle.kt_tuple.specs.Parsing.{Reader, first_outside, are_too_long, lower_fault, fault_of_places, fault_of, places_in}
-use Rattle.kt_tuple.specs.inner.Findings.{first_of, with_place, with_places, nothing_found, found_with, found_in}
+use Rattle.kt_tuple.specs.auxiliary.Findings.{first_of, with_place, with_places, nothing_found, found_with, found_in}
 use Rattle.kt_tuple.proofs.Faults.{is_one_long}
 
 first_kept : (o : Option ℕ) → first_of o None ≡ o

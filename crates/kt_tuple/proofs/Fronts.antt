@@ -1,4 +1,5 @@
 -- A word that stands in front is read.
+-- Cited by `reading::word_at`.
 use Rattle.std.proofs.Common.{◌≡◌, ℕ, true, List, [], ◌∷◌, ◌++◌, Ok, eqb, eq-eqb, refl, sym, ap, ◌∙◌}
 use Rattle.std.proofs.Common.{length, take, drop, take-append-drop, subst}
 use Rattle.std.specs.Cmp.Lexicographic.{pointwise, bytes_decides}

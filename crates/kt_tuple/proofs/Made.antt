@@ -1,11 +1,12 @@
 -- Building place after place.
+-- Cited by Making, Wholes, WholesRead, `parsing::items_in`.
 use Rattle.std.proofs.Common.{◌≡◌, ℕ, suc, ◌+◌, ◌-◌, ◌<◌, ◌≤◌, List, ◌++◌, Option, Some, None, Ok, Err, refl, sym, ap, ◌∙◌, append_assoc, arith}
 use Rattle.std.specs.Prelude.{option_to_list}
 use Rattle.std.proofs.lemmas.List.{append-nil}
 use Rattle.kt_tuple.specs.declared.tuple.TheConstants.{MAX_PLACES}
 use Rattle.kt_tuple.specs.Reading.{after_place}
 use Rattle.kt_tuple.specs.Parsing.{Reader}
-use Rattle.kt_tuple.specs.inner.Making.{made_with, made_from}
+use Rattle.kt_tuple.specs.auxiliary.Making.{made_with, made_from}
 
 pub made_step : {A : Type 0} (read : Reader) (make : List ℕ → Option A) (i : ℕ) (text : List ℕ) → i < MAX_PLACES
     → made_from read make (MAX_PLACES - i) text ≡ made_with (read text) make (made_from read make (MAX_PLACES - (i + 1)))

@@ -1,4 +1,5 @@
 -- What the parser makes of a text, place by place, is what the definitions make of all its places.
+-- Cited by Texts, parsing.rt.
 use Rattle.std.proofs.Common.{◌≡◌, ℕ, zero, suc, ◌+◌, ◌-◌, ◌<◌, ◌≤◌, List, [], ◌∷◌, ◌++◌, length}
 use Rattle.std.proofs.Common.{Option, Some, None, Ok, refl, sym, ap, subst, ◌∙◌, arith}
 use Rattle.std.specs.List.{filter_map, cons_option}
@@ -6,7 +7,7 @@ use Rattle.std.specs.Prelude.{option_to_list}
 use Rattle.kt_tuple.specs.declared.tuple.TheConstants.{MAX_PLACES}
 use Rattle.kt_tuple.specs.Reading.{◌>>=◌, word_at, after_place}
 use Rattle.kt_tuple.specs.Parsing.{Reader, and_behind, places_from, places_in, fault_of, made_of}
-use Rattle.kt_tuple.specs.inner.Making.{made_from, made_after, made_in}
+use Rattle.kt_tuple.specs.auxiliary.Making.{made_from, made_after, made_in}
 use Rattle.kt_tuple.proofs.ValueLaws.{bound}
 use Rattle.kt_tuple.proofs.Made.{made_step}
 use Rattle.kt_tuple.proofs.Faults.{found_fine, at_most_places}

@@ -1,4 +1,5 @@
 -- A text without the shape has its syntax fault at the longest front that begins a text, and nowhere else.
+-- Cited by `laws::a_syntax_fault_is_at_the_longest_front`.
 use Rattle.std.proofs.Common.{◌≡◌, ℕ, ◌<◌, inl, inr, List, Option, Some, None, refl, sym, ap, ◌∙◌, arith}
 use Rattle.std.proofs.lemmas.Bool.{cases_lt}
 use Rattle.kt_tuple.specs.declared.parse_error.ParseError.{ParseError}

@@ -1,4 +1,5 @@
 -- The readers of values and places read those of the grammar.
+-- Cited by Explained, `laws::a_syntax_fault_is_at_the_longest_front`, `laws::a_text_of_the_shape_has_these_faults`.
 use Rattle.std.proofs.Common.{◌≡◌, ℕ, Bool, true, false, cond, eqb, List, [], ◌∷◌, ◌++◌, Ok, Err, refl, sym, subst, ◌∙◌, arith}
 use Rattle.std.proofs.lemmas.Bool.{ne_eqb}
 use Rattle.std.specs.Prelude.{codes}

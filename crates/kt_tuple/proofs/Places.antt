@@ -1,9 +1,10 @@
 -- Reading place after place.
+-- Cited by `parsing::found_in`.
 use Rattle.std.proofs.Common.{◌≡◌, ℕ, suc, ◌+◌, ◌-◌, ◌<◌, ◌≤◌, List, ◌∷◌, length, Some, None, Result, Ok, Err, refl, sym, ap, ◌∙◌, arith}
 use Rattle.kt_tuple.specs.declared.parsing.Findings.{Findings}
 use Rattle.kt_tuple.specs.Reading.{◌>>=◌, after_place}
 use Rattle.kt_tuple.specs.Parsing.{Reader, places_from, and_behind}
-use Rattle.kt_tuple.specs.inner.Findings.{with_place, found_with}
+use Rattle.kt_tuple.specs.auxiliary.Findings.{with_place, found_with}
 
 -- one place is read, and what follows says how it goes on
 places_step : (read : Reader) (n i : ℕ) (text : List ℕ) → i < n

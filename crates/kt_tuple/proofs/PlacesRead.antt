@@ -1,4 +1,5 @@
 -- The text of a place is read as that place.
+-- Cited by Texts, `laws::a_front_spelled_is_read`.
 use Rattle.std.proofs.Common.{◌≡◌, ℕ, true, false, eqb, List, ◌∷◌, ◌++◌, Some, Ok, refl, ap, ◌∙◌}
 use Rattle.std.specs.Option.{option_map}
 use Rattle.kt_tuple.specs.declared.value.Value.{Value}

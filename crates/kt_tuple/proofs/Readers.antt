@@ -1,4 +1,5 @@
 -- What the readers read.
+-- Cited by `reading::after_digits`; kt_text.
 use Rattle.std.proofs.Common.{◌≡◌, ℕ, ◌+◌, suc, Bool, true, false, not, cond, ltb, List, [], ◌∷◌, length, drop, Some, None, refl, sym, ap, ◌∙◌, arith}
 use Rattle.std.proofs.Math.ListN.{drop_of_length-le}
 use Rattle.std.proofs.lemmas.Bool.{ltb-false}
@@ -6,7 +7,7 @@ use Rattle.std.specs.Prelude.{position}
 use Rattle.std.specs.Char.{is_ascii_digit}
 use Rattle.std.specs.List.{position_or_len}
 use Rattle.kt_tuple.specs.Reading.{after_digits}
-use Rattle.kt_tuple.specs.inner.Digits.{is_no_digit}
+use Rattle.kt_tuple.specs.auxiliary.Digits.{is_no_digit}
 
 drop-by_test : (b : Bool) (n c : ℕ) (cs rest : List ℕ) → drop n cs ≡ rest → drop (cond (not (not b)) (1 + n) 0) (c ∷ cs) ≡ cond b rest (c ∷ cs)
 drop-by_test true n c cs rest e =

@@ -1,4 +1,5 @@
 -- The places of a text, by the tests of the readers.
+-- Cited by ByShape, Exact, TextFaults.
 use Rattle.std.proofs.Common.{◌≡◌, ℕ, ◌<◌, ◌≤◌, ◌⊎◌, true, false, List, ◌∷◌, ◌++◌, length}
 use Rattle.std.specs.List.{flat_map, list_all}
 use Rattle.kt_tuple.specs.declared.tuple.TheConstants.{MAX_PLACES}

@@ -1,4 +1,5 @@
 -- One text more behind the texts so far.
+-- Cited by `writing::push_in_parentheses`, `writing::push_service`, `writing::push_string`.
 use Rattle.std.proofs.Common.{◌≡◌, ℕ, ◌+◌, ◌<◌, List, [], ◌∷◌, ◌++◌, length, get_or, take, map, refl, sym, ap, ◌∙◌, append_assoc, drop}
 use Rattle.std.proofs.lemmas.Grind.{flat_map-append}
 use Rattle.std.proofs.lemmas.List.{append-nil, map-append, take_more, take-append-drop}

@@ -1,4 +1,6 @@
 -- What it means that a reader reads the texts of a shape.
+-- Cited by Exact, Explained, FormalShapes, IntShapes, Layouts, Only, PlaceShapes, StrShapes, TextFaults, TextShapes,
+--   TextStops, WordShapes.
 use Rattle.std.proofs.Common.{◌≡◌, ℕ, ◌⊎◌, inl, inr, false, List, [], ◌∷◌, ◌++◌, Result, Ok, Err, refl, sym, ap, subst, ◌∙◌}
 use Rattle.kt_tuple.specs.Grammar.{Begins}
 use Rattle.kt_tuple.specs.Parsing.{Reader}

@@ -1,4 +1,5 @@
 -- The reader of strs reads the strs of the grammar.
+-- Cited by PlaceShapes.
 use Rattle.std.proofs.Common.{◌≡◌, ℕ, Bool, true, false, cond, ◌||◌, inl, inr, eqb, leb, List, [], ◌∷◌, ◌++◌, Ok, Err, refl, sym, ap, subst, ◌∙◌, append_assoc}
 use Rattle.std.proofs.lemmas.Bool.{ne_eqb, eqb-true, eqb-false, leb-true, le-leb, and_parts, and_from}
 use Rattle.kt_tuple.specs.Grammar.{IsPlain, IsCharacters, none, plain, quote, backslash, IsStr, quoted}

@@ -1,4 +1,5 @@
 -- What the other faults of a text say of its places.
+-- Cited by Exact, Explained, `laws::a_text_of_the_shape_has_these_faults`.
 use Rattle.std.proofs.Common.{◌≡◌, ℕ, ◌-◌, ◌<◌, ◌⊎◌, inl, inr, Bool, true, false, ltb, List, [], ◌∷◌, ◌++◌, length, map}
 use Rattle.std.proofs.Common.{Option, Some, None, Result, Ok, Err, refl, sym, ap, subst, ◌∙◌, append_assoc, arith, length-append}
 use Rattle.std.proofs.lemmas.Bool.{ltb-true, or_cases, cases_Bool}

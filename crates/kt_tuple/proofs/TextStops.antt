@@ -1,4 +1,5 @@
 -- Where no text goes on with the next byte, what was read begins some text, and with that byte it begins none.
+-- Cited by TextShapes.
 use Rattle.std.proofs.Common.{◌≡◌, ℕ, zero, suc, ◌<◌, ◌≤◌, inl, inr, List, [], ◌∷◌, ◌++◌, length, Option, Some}
 use Rattle.std.proofs.Common.{None, Ok, Err, refl, sym, ap, subst, ◌∙◌, append_assoc, arith, length-append}
 use Rattle.kt_tuple.specs.Reading.{◌>>=◌, after_place}

@@ -1,4 +1,6 @@
 -- The text of a tuple or a template is the one text of what is read of it.
+-- Cited by Explained, `Template::write_to`, `Tuple::write_to`, `laws::a_text_read_is_spelled_so`,
+--   `laws::a_text_spelled_is_read`.
 use Rattle.std.proofs.Common.{◌≡◌, ℕ, List, None, Result, Ok, Err, sym, ap, subst, ◌∙◌}
 use Rattle.std.specs.Prelude.{All, OnOk}
 use Rattle.kt_tuple.specs.declared.value.Value.{Value}
@@ -8,7 +10,7 @@ use Rattle.kt_tuple.specs.Matching.{HasArity}
 use Rattle.kt_tuple.specs.Spelling.{value_text, place_text, tuple_text, template_text}
 use Rattle.kt_tuple.specs.Reading.{value_at, value_of, place_at, place_of}
 use Rattle.kt_tuple.specs.Parsing.{tuple_fault, tuple_values, template_fault, template_places}
-use Rattle.kt_tuple.specs.inner.Making.{made_in}
+use Rattle.kt_tuple.specs.auxiliary.Making.{made_in}
 use Rattle.kt_tuple.proofs.ValueLaws.{value_taken, value_made, value_read_front, value_read_spelled, value_in_range}
 use Rattle.kt_tuple.proofs.ValuesRead.{value_at_text, value_of_text, has_range_text, is_short_text}
 use Rattle.kt_tuple.proofs.PlaceLaws.{place_taken, place_made, place_read_front, place_read_spelled, place_in_range}

@@ -1,4 +1,5 @@
 -- The text of a whole tuple or template, for each kind of place.
+-- Cited by TextStops, Texts, WholesRead; kt_text.
 use Rattle.std.proofs.Common.{◌≡◌, ℕ, zero, suc, ◌+◌, ◌-◌, ◌<◌, ◌≤◌, Bool, true, false, eqb, List, [], ◌∷◌, ◌++◌}
 use Rattle.std.proofs.Common.{length, map, Option, Some, None, Ok, refl, sym, ap, subst, ◌∙◌, append_assoc, arith}
 use Rattle.std.proofs.lemmas.Bool.{eqb-true}
@@ -10,7 +11,7 @@ use Rattle.kt_tuple.specs.Spelling.{separated, in_parentheses}
 use Rattle.kt_tuple.specs.Matching.{HasArity}
 use Rattle.kt_tuple.specs.Reading.{◌>>=◌, word_at, after_place, has_range, is_short, begins_with_digit}
 use Rattle.kt_tuple.specs.Parsing.{Reader, and_behind, places_from, places_in, fault_of}
-use Rattle.kt_tuple.specs.inner.Making.{made_from, made_in}
+use Rattle.kt_tuple.specs.auxiliary.Making.{made_from, made_in}
 use Rattle.kt_tuple.proofs.ValueLaws.{bound, word_taken}
 use Rattle.kt_tuple.proofs.Made.{made_step}
 use Rattle.kt_tuple.proofs.Faults.{AreFine, found_fine}

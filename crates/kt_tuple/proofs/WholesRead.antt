@@ -1,4 +1,5 @@
 -- The text of a tuple or template, for each kind of place, is read as that tuple or template.
+-- Cited by Texts; kt_text.
 use Rattle.std.proofs.Common.{◌≡◌, ℕ, zero, suc, ◌+◌, ◌-◌, ◌<◌, ◌≤◌, List, [], ◌∷◌, ◌++◌, length, map}
 use Rattle.std.proofs.Common.{Option, Some, None, Ok, refl, ap, ◌∙◌, append_assoc, arith, length-append}
 use Rattle.std.proofs.lemmas.List.{append-nil}
@@ -10,7 +11,7 @@ use Rattle.kt_tuple.specs.Spelling.{further, separated, in_parentheses}
 use Rattle.kt_tuple.specs.Matching.{HasArity}
 use Rattle.kt_tuple.specs.Reading.{after_place}
 use Rattle.kt_tuple.specs.Parsing.{Reader, places_from, fault_of}
-use Rattle.kt_tuple.specs.inner.Making.{made_from, made_in}
+use Rattle.kt_tuple.specs.auxiliary.Making.{made_from, made_in}
 use Rattle.kt_tuple.proofs.Made.{made_step}
 use Rattle.kt_tuple.proofs.Faults.{AreFine, fine_found}
 use Rattle.kt_tuple.proofs.Wholes.{IsReader, separated-cons, length-map_same}

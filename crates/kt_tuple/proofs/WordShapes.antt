@@ -1,4 +1,5 @@
 -- The reader of a word reads just that word.
+-- Cited by FormalShapes, Layouts, PlaceShapes.
 use Rattle.std.proofs.Common.{◌≡◌, ℕ, Bool, true, false, cond, eqb, List, [], ◌∷◌, ◌++◌, Ok, Err, refl, sym, ap, ◌∙◌}
 use Rattle.std.proofs.lemmas.Bool.{eqb-true}
 use Rattle.kt_tuple.specs.Reading.{word_at, up_to, spelled_at}

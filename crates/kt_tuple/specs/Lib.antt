@@ -11,4 +11,4 @@ pub mod Spelling
 pub mod Reading
 pub mod Parsing
 pub mod Grammar
-pub mod inner
+pub mod auxiliary

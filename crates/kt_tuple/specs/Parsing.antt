@@ -1,4 +1,7 @@
 -- What is read of the text of a tuple or a template, and the lowest fault of the text.
+-- Cited by Exact, Explained, Faults, Findings, Made, Making, Only, Places, Shapes, TextFaults, TextShapes, TextStops,
+--   Texts, Wholes, WholesRead, item.rt, laws.rt, parsing.rt, specs/auxiliary/Findings, specs/auxiliary/Making,
+--   writing.rt, `Template::write_to`, `Tuple::write_to`, `parsing::found_in`.
 use Rattle.std.specs.Prelude.{ℕ, zero, suc, ◌-◌, ◌||◌, not, nat_lt, Bool, true, false, if◌then◌else◌}
 use Rattle.std.specs.Prelude.{List, [], ◌∷◌, length, Option, Some, None, Result, Ok, Err}
 use Rattle.std.specs.List.{list_any, filter_map}

@@ -1,4 +1,5 @@
 //! What stands between the parentheses of a tuple or a template, as one reader takes it.
+//! Cited by parsing.rt; whoever calls the trait `Item`.
 
 ghost use Rattle.std.specs.Prelude.{◌≡◌, ℕ, List, Option};
 ghost use Rattle.kt_tuple.specs.Parsing.{Reader};

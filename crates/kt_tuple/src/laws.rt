@@ -1,4 +1,5 @@
 //! Laws about the definitions, each the contract of a function with nothing to do.
+//! Cited by no other file of crates/.
 
 ghost use Rattle.std.specs.Prelude.{◌≡◌, ◌<◌, ◌≤◌, ◌↔◌, ◌++◌, ◌∷◌, [], ℕ, List, false};
 ghost use Rattle.std.specs.Prelude.{length, take, Ok, Some, None, IsTrue, IsSome, All};

@@ -1,4 +1,5 @@
 //! Why a text is no tuple or template.
+//! Cited by parsing.rt.
 
 use thiserror::Error;
 

@@ -1,4 +1,5 @@
 //! Tuples and templates from their text: first judged without memory, then built.
+//! Cited by no other file of crates/.
 
 ghost use Rattle.std.specs.Prelude.{◌≡◌, ◌++◌, IfOk, IfErr, OnOk, option_to_list, IfSome, None, Err};
 ghost use Rattle.kt_tuple.specs.Grammar.{IsValueText, IsPlaceText, Explains, IsAccepted};
@@ -6,8 +7,8 @@ ghost use Rattle.kt_tuple.specs.Reading.{Gives};
 ghost use Rattle.kt_tuple.specs.Parsing.{tuple_fault, tuple_values, template_fault, template_places};
 ghost use Rattle.kt_tuple.specs.Parsing.{fault_of, lower_fault, made_of, places_in};
 ghost use Rattle.kt_tuple.specs.Spelling.{tuple_text, template_text};
-ghost use Rattle.kt_tuple.specs.inner.Findings.{nothing_found, with_place, found_in};
-ghost use Rattle.kt_tuple.specs.inner.Making.{made_in};
+ghost use Rattle.kt_tuple.specs.auxiliary.Findings.{nothing_found, with_place, found_in};
+ghost use Rattle.kt_tuple.specs.auxiliary.Making.{made_in};
 
 use crate::item::Item;
 use crate::parse_error::ParseError;

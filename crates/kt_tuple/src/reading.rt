@@ -2,13 +2,14 @@
 //!
 //! A reader is given the bytes that are left. It answers the spelling that it read and the bytes after
 //! it, or the bytes from the first one that no text of its kind goes on with.
+//! Cited by item.rt, parsing.rt; kt_text.
 
 ghost use Rattle.std.specs.Prelude.{◌≡◌, ◌≤◌, ℕ, List, length, take, drop, false, position, IfSome};
 ghost use Rattle.std.specs.Option.{option_map};
 ghost use Rattle.kt_tuple.specs.Reading.{Gives, word_at, spelled_at, after_digits, after_positive, split_before};
 ghost use Rattle.kt_tuple.specs.Reading.{after_characters, int_at, str_at, value_at, formal_at, place_at, after_place};
 ghost use Rattle.kt_tuple.specs.Reading.{is_printable, int_of, has_range, is_short, value_of};
-ghost use Rattle.kt_tuple.specs.inner.Digits.{is_no_digit};
+ghost use Rattle.kt_tuple.specs.auxiliary.Digits.{is_no_digit};
 ghost use Rattle.kt_tuple.specs.Reading.{place_of, between_quotes, characters_of, str_of, is_escape};
 
 use crate::string::{MAX_CHARACTERS, Str};

@@ -1,4 +1,5 @@
 //! Services: requests that were served.
+//! Cited by equality.rt, writing.rt; kt_history, kt_scene.
 
 use crate::op::{Answer, Op};
 

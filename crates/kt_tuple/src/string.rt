@@ -1,4 +1,5 @@
 //! Strings: short texts of printable characters.
+//! Cited by equality.rt, reading.rt, value.rt, writing.rt; kt_ckpt, kt_script, kt_space.
 
 ghost use Rattle.std.specs.Prelude.{◌≡◌, ◌↔◌, ℕ, List, ◌≤◌, length, IsSome, IfSome, IsTrue};
 ghost use Rattle.kt_tuple.specs.Text.{IsText, ArePrintable};

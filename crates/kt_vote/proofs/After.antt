@@ -1,4 +1,5 @@
 -- What all votes that come make of a ballot, and what it says then.
+-- Cited by `Ballot::complete`, `Ballot::mark_voted`, `Ballot::refused`, `laws::votes_make_the_ballot`.
 use Rattle.std.proofs.Common.{◌≡◌, ◌↔◌, Bool, true, false, cond, List, [], ◌∷◌, ◌++◌, filter, All, Any, Some, refl, sym, ap, ◌∙◌}
 use Rattle.std.specs.Prelude.{IsTrue, IsSome, Option, None}
 use Rattle.std.specs.List.{list_any}

@@ -1,4 +1,5 @@
 -- One node more that is asked, and fewer that are awaited.
+-- Cited by `Ballot::ask`, `Ballot::asking`, `Ballot::awaits`, `Ballot::count`.
 use Rattle.std.proofs.Common.{◌≡◌, ℕ, Bool, true, false, List, [], ◌∷◌, ◌++◌, filter, All, Contains, refl, sym, ap, subst, ◌∙◌}
 use Rattle.std.specs.Prelude.{Option, None}
 use Rattle.std.specs.List.{list_any}
@@ -11,7 +12,7 @@ use Rattle.kt_tuple.specs.declared.node.NodeId.{NodeId}
 use Rattle.kt_vote.specs.declared.asker.Asker.{Asker}
 use Rattle.kt_vote.specs.declared.vote.Vote.{Vote}
 use Rattle.kt_vote.specs.Order.{IsBefore, IsInOrder}
-use Rattle.kt_vote.specs.inner.Asked.{AreAsked}
+use Rattle.kt_vote.specs.auxiliary.Asked.{AreAsked}
 use Rattle.kt_vote.specs.Poll.{Poll, asked_too, asking_poll}
 use Rattle.kt_vote.specs.Counting.{IsAfter, is_no, said}
 

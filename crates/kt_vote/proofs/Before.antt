@@ -1,4 +1,5 @@
 -- The order of nodes, and lists of nodes that come before one.
+-- Cited by `laws::nodes_are_in_one_order`.
 use Rattle.std.proofs.Common.{◌≡◌, ◌⊎◌, inl, inr, ℕ, true, List, [], ◌∷◌, ◌++◌, All, refl, ap, arith}
 use Rattle.std.proofs.lemmas.Bool.{cases_order, false≢true, lt-ltb, ltb-true}
 use Rattle.std.specs.Prelude.{nat_lt}

@@ -1,4 +1,5 @@
 -- What std lacks on lists.
+-- Cited by After, Told.
 use Rattle.std.proofs.Common.{◌≡◌, suc, arith, Bool, true, false, not, ◌&&◌, ◌||◌, cond, List, [], ◌∷◌, filter, All, Option, None, Some, refl, sym, ap}
 use Rattle.std.specs.Prelude.{IsSome}
 use Rattle.std.specs.List.{list_any}

@@ -1,4 +1,5 @@
 -- What a ballot has counted of all votes that came, told from these votes alone.
+-- Cited by After, Asked, Told, ballot.rt, laws.rt.
 use Rattle.std.specs.Prelude.{◌≡◌, Bool, false, not, ◌&&◌, List, [], ◌∷◌, filter, Option, Some, None}
 use Rattle.std.specs.List.{find, list_any}
 use Rattle.std.specs.Option.{option_map, is_none}

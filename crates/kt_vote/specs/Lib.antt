@@ -1,4 +1,4 @@
 pub mod Order
 pub mod Poll
 pub mod Counting
-pub mod inner
+pub mod auxiliary

@@ -1,4 +1,5 @@
 //! Who asked for a vote.
+//! Cited by ballot.rt; kt_node, kt_state.
 
 use kt_tuple::NodeId;
 

@@ -1,4 +1,5 @@
 //! Ballots: whom a node asked, and the votes that came.
+//! Cited by kt_core, kt_node, kt_stage, kt_state.
 
 ghost use Rattle.std.specs.Prelude.{◌≡◌, ◌↔◌, ◌∷◌, ◌++◌, [], if◌then◌else◌, List, All, Any, Contains, filter, not};
 ghost use Rattle.std.specs.Prelude.{None, Some, true, false, IsTrue, IsSome, IfOk, OnOk, OnErr};
@@ -31,7 +32,7 @@ pub struct Ballot {
 }
 
 impl Model for Ballot {
-    ghost use Rattle.kt_vote.specs.inner.Asked.{AreAsked};
+    ghost use Rattle.kt_vote.specs.auxiliary.Asked.{AreAsked};
     ghost use Rattle.kt_vote.specs.Poll.{Poll};
 
     ghost Value = { Poll };

@@ -1,4 +1,5 @@
 //! Laws about ballots, each the contract of a function with nothing to do.
+//! Cited by no other file of crates/.
 
 ghost use Rattle.std.specs.Prelude.{◌≡◌, ◌⊎◌, ◌↔◌, List, [], All, Any, IsTrue, IsSome, Some, false};
 ghost use Rattle.kt_tuple.specs.declared.node.NodeId.{NodeId};

@@ -1,4 +1,5 @@
 //! Votes of nodes.
+//! Cited by ballot.rt; kt_node, kt_state.
 
 /// A node's vote in an instance: whether it agrees.
 #[derive(Clone, Copy, Debug, PartialEq, Eq)]

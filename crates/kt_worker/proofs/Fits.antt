@@ -1,4 +1,5 @@
 -- A worker that stands as its answers say fits its script.
+-- Cited by `laws::parts_of_a_worker_make_it_again`; kt_model.
 use Rattle.std.proofs.Common.{◌≡◌, ◌≤◌, Bool, true, false, List, length, Option, None, Some, refl, sym, subst}
 use Rattle.std.specs.Prelude.{nat_lt, not, if◌then◌else◌}
 use Rattle.std.proofs.lemmas.Bool.{le-ltb}
@@ -12,7 +13,7 @@ use Rattle.kt_script.specs.Rules.{IsScript}
 use Rattle.kt_script.specs.Variables.{variables_of}
 use Rattle.kt_script.proofs.Shared.{in_script-after, in_script-next}
 use Rattle.kt_worker.specs.declared.misfit.Misfit.TheVariants as misfits
-use Rattle.kt_worker.specs.Standing.{Standing}
+use Rattle.kt_worker.specs.WorkerModel.{WorkerModel}
 use Rattle.kt_worker.specs.After.{behind_next, position_when, IsAfter}
 use Rattle.kt_worker.specs.Parts.{misfit_of}
 
@@ -24,14 +25,15 @@ behind_next-in script is position here = by (next_at script position) refl
     by None e = here
     by (Some next) e = in_script-next script is position next here e
 
-pub position-after : (script : List Command) (answers : List Answer) (w : Standing) → IsScript script → IsAfter script answers w → IsInScript script w.position
+pub position-after : (script : List Command) (answers : List Answer) (w : WorkerModel) → IsScript script → IsAfter script answers w
+    → IsInScript script w.position
 position-after script answers w is after = subst (IsInScript script) (sym after.position) (by w.asked)
   where
     by : (o : Option Op) → IsInScript script (position_when o script answers)
     by None = in_script-after script is answers
     by (Some op) = behind_next-in script is (position_after script answers) (in_script-after script is answers)
 
-pub fits-after : (script : List Command) (answers : List Answer) (w : Standing) → IsScript script → IsAfter script answers w → w.number ≤ w.position.pc
+pub fits-after : (script : List Command) (answers : List Answer) (w : WorkerModel) → IsScript script → IsAfter script answers w → w.number ≤ w.position.pc
     → misfit_of script w ≡ None
 fits-after script answers w is after numbered =
     let here = position-after script answers w is after in

@@ -1,4 +1,5 @@
 -- The next operation stands behind the position that it is looked for from.
+-- Cited by `Worker::next`.
 use Rattle.std.proofs.Common.{◌≡◌, ℕ, zero, suc, ◌+◌, ◌<◌, ◌≤◌, List, [], ◌∷◌, drop, Option, None, Some, Result, Ok, Err, sym, ap, arith}
 use Rattle.std.specs.Prelude.{if◌then◌else◌, IfOk, IfSome}
 use Rattle.kt_tuple.specs.declared.value.Kind.{Kind}
@@ -9,7 +10,7 @@ use Rattle.kt_script.specs.declared.command.Command.TheVariants.{Ask, Set, Unles
 use Rattle.kt_script.specs.Variables.{variables_of}
 use Rattle.kt_script.specs.Memory.{Memory}
 use Rattle.kt_script.specs.Next.{Position, assigned, next_from, next_at}
-use Rattle.kt_worker.specs.Standing.{Standing}
+use Rattle.kt_worker.specs.WorkerModel.{WorkerModel}
 
 pc_or : ℕ → Option Next → ℕ
 pc_or pc None = pc
@@ -32,7 +33,7 @@ pub next_at-later : (script : List Command) (position : Position) (next : Next) 
 next_at-later script position next e = next_from-later (variables_of script) position.memory 0 position.pc (drop position.pc script) next e
 
 -- so what is found stands behind the number of requests so far
-pub found-later : {E : Type 0} (script : List Command) (w : Standing) (r : Result (Option Next) E) → w.number ≤ w.position.pc
+pub found-later : {E : Type 0} (script : List Command) (w : WorkerModel) (r : Result (Option Next) E) → w.number ≤ w.position.pc
     → IfOk r (λ next. next ≡ next_at script w.position) → IfOk r (λ next. IfSome next (λ n. w.number < n.pc))
 found-later script w (Ok None) within is = tt
 found-later script w (Ok (Some next)) within is = let later = next_at-later script w.position next (sym is) in omega (arith, later, within)

@@ -1,5 +1,6 @@
 -- A worker that stands as after some answers asks what its script asks then, and stands as after one answer more
 -- once it has heard it.
+-- Cited by `Worker::has_next`, `Worker::hear`, `Worker::is_done`, `Worker::issue`; kt_model.
 use Rattle.std.proofs.Common.{rules, ◌≡◌, ℕ, suc, ◌+◌, Bool, true, false, List, [], ◌∷◌, ◌++◌, length, fold, Option}
 use Rattle.std.proofs.Common.{None, Some, refl, sym, ap, ◌∙◌, subst, eqb-true, eq-eqb, length-append, arith}
 use Rattle.std.specs.Prelude.{IfSome, ◌||◌, ◌↔◌, is_some, not, IsTrue, ◌==◌}
@@ -12,22 +13,22 @@ use Rattle.kt_script.specs.declared.command.Command.{Command}
 use Rattle.kt_script.specs.Asks.{asks}
 use Rattle.kt_script.specs.Next.{Position, next_at, bound, answered, after_one, opening_position, position_after, op_of_next}
 use Rattle.kt_script.proofs.Shared.{reaches}
-use Rattle.kt_worker.specs.Standing.{Standing, opening_standing, unless_asked, next_of, next_request}
-use Rattle.kt_worker.specs.Standing.{numbered, behind, asking, issued, awaits_op, awaits, heard, is_left}
+use Rattle.kt_worker.specs.WorkerModel.{WorkerModel, opening_model, unless_asked, next_of, next_request}
+use Rattle.kt_worker.specs.WorkerModel.{numbered, behind, asking, issued, awaits_op, awaits, heard, is_left}
 use Rattle.kt_worker.specs.After.{last_number, behind_next, position_when, IsAfter}
 
 -- the next operation of a worker that waits for nothing
-next_of-free : (script : List Command) (answers : List Answer) (w : Standing) → IsAfter script answers w → w.asked ≡ None
+next_of-free : (script : List Command) (answers : List Answer) (w : WorkerModel) → IsAfter script answers w → w.asked ≡ None
     → next_of script w ≡ next_at script (position_after script answers)
 next_of-free script answers w after free =
     ap (λ o. unless_asked o (next_at script w.position)) free
     ∙ ap (next_at script) (after.position ∙ ap (λ o. position_when o script answers) free)
 
-number-free : (script : List Command) (answers : List Answer) (w : Standing) → IsAfter script answers w → w.asked ≡ None → w.number ≡ length answers
+number-free : (script : List Command) (answers : List Answer) (w : WorkerModel) → IsAfter script answers w → w.asked ≡ None → w.number ≡ length answers
 number-free script answers w after free = after.number ∙ ap (λ o. last_number o (length answers)) free
 
 -- the request is the operation that the script asks for, with the next number
-pub request-asks : (script : List Command) (answers : List Answer) (w : Standing) → IsAfter script answers w → w.asked ≡ None
+pub request-asks : (script : List Command) (answers : List Answer) (w : WorkerModel) → IsAfter script answers w → w.asked ≡ None
     → next_request script w ≡ numbered (suc (length answers)) (asks script answers)
 request-asks script answers w after free =
     ap (λ o. numbered (w.number + 1) (op_of_next o)) (next_of-free script answers w after free)
@@ -38,7 +39,7 @@ request-asks script answers w after free =
     more = let e = number-free script answers w after free in omega (arith, e)
 
 -- a request leaves the worker as after the same answers
-pub issued-after : (script : List Command) (answers : List Answer) (w : Standing) → IsAfter script answers w → IsAfter script answers (issued script w)
+pub issued-after : (script : List Command) (answers : List Answer) (w : WorkerModel) → IsAfter script answers w → IsAfter script answers (issued script w)
 issued-after script answers w after = by w.asked refl
   where
     stays : (o : Option Next) → o ≡ None → IsAfter script answers (asking w o)
@@ -77,7 +78,7 @@ position_after-push script answers answer = by (opening_position script) answers
     by p (x ∷ xs) = by (after_one script p x) xs
 
 -- the answer to the unanswered request is the one after those so far
-pub heard-after : (script : List Command) (answers : List Answer) (w : Standing) (op : Op) (answer : Answer) → IsAfter script answers w → w.asked ≡ Some op
+pub heard-after : (script : List Command) (answers : List Answer) (w : WorkerModel) (op : Op) (answer : Answer) → IsAfter script answers w → w.asked ≡ Some op
     → IsAfter script (answers ++ answer ∷ []) (heard script w answer)
 heard-after script answers w op answer after e =
     let next = is_next script answers op (subst (λ o. IfSome o (λ asked. asks script answers ≡ Some asked)) e after.asked) in
@@ -93,7 +94,8 @@ heard-after script answers w op answer after e =
     }
 
 -- an operation is left where the script asks for one
-pub is_left-asks : (script : List Command) (answers : List Answer) (w : Standing) → IsAfter script answers w → is_left script w ≡ is_some (asks script answers)
+pub is_left-asks : (script : List Command) (answers : List Answer) (w : WorkerModel) → IsAfter script answers w
+    → is_left script w ≡ is_some (asks script answers)
 is_left-asks script answers w after = by w.asked refl
   where
     of_next : (o : Option Next) → is_some o ≡ is_some (op_of_next o)
@@ -130,25 +132,25 @@ awaits_op-from (Some other) last number op n e =
     and_from (last == number) (op_eq other op) (eq-eqb last number n) ((op_eq_decides other op).1 same)
 
 -- the test of the unanswered request
-pub awaits-is : (w : Standing) (number : ℕ) (op : Op) → awaits w number op ≡ true → (w.number ≡ number) × (w.asked ≡ Some op)
+pub awaits-is : (w : WorkerModel) (number : ℕ) (op : Op) → awaits w number op ≡ true → (w.number ≡ number) × (w.asked ≡ Some op)
 awaits-is w number op e = awaits_op-is w.asked w.number number op e
 
-pub awaits-from : (w : Standing) (number : ℕ) (op : Op) → w.number ≡ number → w.asked ≡ Some op → awaits w number op ≡ true
+pub awaits-from : (w : WorkerModel) (number : ℕ) (op : Op) → w.number ≡ number → w.asked ≡ Some op → awaits w number op ≡ true
 awaits-from w number op n e = awaits_op-from w.asked w.number number op n e
 
-pub awaits-decides : (w : Standing) (number : ℕ) (op : Op) (r : Bool) → awaits w number op ≡ r → IsTrue r ↔ ((w.number ≡ number) × (w.asked ≡ Some op))
+pub awaits-decides : (w : WorkerModel) (number : ℕ) (op : Op) (r : Bool) → awaits w number op ≡ r → IsTrue r ↔ ((w.number ≡ number) × (w.asked ≡ Some op))
 awaits-decides w number op true e = (λ _. awaits-is w number op e, λ _. search rules)
 awaits-decides w number op false e = (λ k. search rules, λ k. absurd (false≢true (sym e ∙ awaits-from w number op k.0 k.1)))
 
 -- what a worker does that makes the request r after these answers
-pub record Requests (script : List Command) (answers : List Answer) (w : Standing) (r : ℕ × Op) : Type 0 where
+pub record Requests (script : List Command) (answers : List Answer) (w : WorkerModel) (r : ℕ × Op) : Type 0 where
   pub free : w.asked ≡ None
   pub number : r.0 ≡ suc (length answers)
   pub asks_for : asks script answers ≡ Some r.1
   pub asked : (issued script w).asked ≡ Some r.1
   pub after : IsAfter script answers (issued script w)
 
-pub Requests-next : (script : List Command) (answers : List Answer) (w : Standing) (r : ℕ × Op) → IsAfter script answers w → next_request script w ≡ Some r
+pub Requests-next : (script : List Command) (answers : List Answer) (w : WorkerModel) (r : ℕ × Op) → IsAfter script answers w → next_request script w ≡ Some r
     → Requests script answers w r
 Requests-next script answers w r after e = record {
   free = free;
@@ -177,5 +179,5 @@ Requests-next script answers w r after e = record {
         let same : (w.number + 1, next.op) ≡ r = cc in ap (λ (z : ℕ × Op). Some z.1) same
 
 -- before the first request there is no answer
-pub opening-after : (script : List Command) → IsAfter script [] (opening_standing script)
+pub opening-after : (script : List Command) → IsAfter script [] (opening_model script)
 opening-after script = record { number = refl; asked = tt; position = refl }

@@ -1,4 +1,5 @@
 -- When a worker stands as its answers so far say.
+-- Cited by Fits, Requests, laws.rt, worker.rt; kt_model, kt_resume.
 use Rattle.std.specs.Prelude.{◌≡◌, ℕ, suc, List, length, Option, None, Some, IfSome}
 use Rattle.kt_tuple.specs.declared.op.Op.{Op}
 use Rattle.kt_tuple.specs.declared.op.Answer.{Answer}
@@ -6,7 +7,7 @@ use Rattle.kt_script.specs.declared.next.Next.{Next}
 use Rattle.kt_script.specs.declared.command.Command.{Command}
 use Rattle.kt_script.specs.Asks.{asks}
 use Rattle.kt_script.specs.Next.{Position, next_at, position_after}
-use Rattle.kt_worker.specs.Standing.{Standing, behind}
+use Rattle.kt_worker.specs.WorkerModel.{WorkerModel, behind}
 
 -- the number of the last request, where so many are answered
 abbrev pub last_number : Option Op → ℕ → ℕ
@@ -24,7 +25,7 @@ position_when (Some op) script answers =
     behind_next (position_after script answers) (next_at script (position_after script answers))
 
 -- the worker was answered so, and what is unanswered is what the script asks then
-pub record IsAfter (script : List Command) (answers : List Answer) (w : Standing) : Type 0 where
+pub record IsAfter (script : List Command) (answers : List Answer) (w : WorkerModel) : Type 0 where
   pub number : w.number ≡ last_number w.asked (length answers)
   pub asked : IfSome w.asked (λ op. asks script answers ≡ Some op)
   pub position : w.position ≡ position_when w.asked script answers

@@ -1,3 +1,3 @@
-pub mod Standing
+pub mod WorkerModel
 pub mod After
 pub mod Parts

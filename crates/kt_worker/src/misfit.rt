@@ -1,4 +1,5 @@
 //! Why parts make no worker.
+//! Cited by worker.rt.
 
 use thiserror::Error;
 

@@ -1,4 +1,5 @@
 //! Workers: their numbered requests, at most one unanswered.
+//! Cited by kt_core, kt_node, kt_resume, kt_stage, kt_state.
 
 ghost use Rattle.std.specs.Prelude.{◌≡◌, ◌↔◌, List, suc, length, [], ◌∷◌, ◌++◌, if◌then◌else◌, ◌+◌, ◌<◌};
 ghost use Rattle.std.specs.Prelude.{◌≤◌, Some, None, not, is_some, IsTrue, IfOk, IfErr, IfSome, OnOk, OnErr};
@@ -26,9 +27,9 @@ pub struct Worker {
 
 impl Model for Worker {
     ghost use Rattle.std.specs.Prelude.{◌≤◌};
-    ghost use Rattle.kt_worker.specs.Standing.{Standing};
+    ghost use Rattle.kt_worker.specs.WorkerModel.{WorkerModel};
 
-    ghost Value = { Standing };
+    ghost Value = { WorkerModel };
 
     ghost view = { λ w.
         record { number = w.number; asked = w.asked; position = record { pc = w.pc; memory = w.env } } };
@@ -41,14 +42,14 @@ impl Worker {
     ghost use Rattle.kt_tuple.specs.declared.op.Answer.{Answer};
     ghost use Rattle.kt_script.specs.declared.command.Command.{Command};
     ghost use Rattle.kt_script.specs.Asks.{asks};
-    ghost use Rattle.kt_worker.specs.Standing.{opening_standing, again_request, next_of, next_request};
-    ghost use Rattle.kt_worker.specs.Standing.{numbered, issued, awaits, heard, is_left};
+    ghost use Rattle.kt_worker.specs.WorkerModel.{opening_model, again_request, next_of, next_request};
+    ghost use Rattle.kt_worker.specs.WorkerModel.{numbered, issued, awaits, heard, is_left};
     ghost use Rattle.kt_worker.specs.After.{IsAfter};
-    ghost use Rattle.kt_worker.specs.Parts.{standing_of, misfit_of};
+    ghost use Rattle.kt_worker.specs.Parts.{model_of, misfit_of};
 
     /// A worker that made no request yet, before its script's first command.
     pub fn new(alloc: Global, script: &Script) -> Result<Worker, AllocError>
-        ensures value { IfOk result (λ w. w ≡ opening_standing script.now) }
+        ensures value { IfOk result (λ w. w ≡ opening_model script.now) }
         ensures after { IfOk result (λ w. IsAfter script.now [] w) }
     {
         Ok(Worker {
@@ -74,11 +75,11 @@ impl Worker {
         was_none: bool,
         values: Vec<Value>,
     ) -> Result<Worker, Misfit>
-        ensures made { IfOk result (λ w. w ≡ standing_of number asked pc was_none values.items) }
+        ensures made { IfOk result (λ w. w ≡ model_of number asked pc was_none values.items) }
         ensures fits { OnOk result
-            (misfit_of script.now (standing_of number asked pc was_none values.items) ≡ None) }
+            (misfit_of script.now (model_of number asked pc was_none values.items) ≡ None) }
         ensures refused { IfErr result (λ m.
-            misfit_of script.now (standing_of number asked pc was_none values.items) ≡ Some m) }
+            misfit_of script.now (model_of number asked pc was_none values.items) ≡ Some m) }
     {
         if script.commands().len() < pc {
             return Err(Misfit::Position);

@@ -1,4 +1,5 @@
 -- What a parse by the program's own command line can give.
+-- Cited by `words::has_flag`, `words::read_words`.
 use Rattle.std.proofs.Common.{◌≡◌, Bool, true, false, cond, List, [], ◌∷◌, Option, Some, None, option_map, codes, ap, refl, subst, sym, inl, inr, ◌∙◌}
 use Rattle.std.specs.Prelude.{◌⊎◌, ◌&&◌, not, if◌then◌else◌, is_some, option_and_then, unwrap_or}
 use Rattle.std.specs.Prelude.{Result, Ok, Err, IsErrAnd}

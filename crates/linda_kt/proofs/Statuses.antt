@@ -1,4 +1,5 @@
 -- How a run of the program ends, told from how its command ends.
+-- Cited by `program::run_arguments`, `program::run_program`, `program::run_texts`.
 use Rattle.std.proofs.Common.{◌≡◌, ℕ, List, [], Result, inl, inr, subst}
 use Rattle.std.specs.Prelude.{◌≢◌}
 use Rattle.clap.specs.Words.{kind_of, HasKind, Kinds, Text}

@@ -1,4 +1,5 @@
 -- What may be answered where the store in a file is opened.
+-- Cited by files.rt.
 use Rattle.std.specs.Prelude.{◌≡◌, ◌≢◌, ◌↔◌, ◌⊎◌, Result, Ok, Err, IfOk, IfErr, IsTrue, codes}
 use Rattle.clap.specs.Words.{Text}
 use Rattle.sqlite.specs.Store.{Ghosts}
@@ -7,10 +8,10 @@ use Rattle.sqlite.specs.Tree.{Trees}
 use Rattle.sqlite.specs.State.{HasCleanDisk}
 use Rattle.kt_store.specs.Calls.{Counts, nothing_counted}
 use Rattle.kt_store.specs.Content.{Content}
-use Rattle.kt_tables.specs.Old.{AreNewOf, IsOldOf}
-use Rattle.kt_tables.specs.Rows.{AreAsSaid, content_in}
-use Rattle.kt_tables.specs.Opened.{IsThisVersion}
-use Rattle.kt_tables.specs.Held.{Tabled, is_sure}
+use Rattle.kt_sql_tables.specs.Old.{AreNewOf, IsOldOf}
+use Rattle.kt_sql_tables.specs.Rows.{AreAsSaid, content_in}
+use Rattle.kt_sql_tables.specs.Opened.{IsThisVersion}
+use Rattle.kt_sql_tables.specs.Held.{Tabled, is_sure}
 use Rattle.kt_sql.specs.declared.error.SqlOpenError.{SqlOpenError}
 use Rattle.kt_sql.specs.declared.error.SqlOpenError.TheVariants.{Device, Mismatch}
 

@@ -1,4 +1,5 @@
 -- How a run of the program ends, over the store in memory or the file that it names.
+-- Cited by Statuses, program.rt, `program::run_arguments`, `program::run_program`, `program::run_texts`.
 use Rattle.std.specs.Prelude.{◌≡◌, ◌⊎◌, ℕ, List, Some, Result}
 use Rattle.clap.specs.Words.{Text}
 use Rattle.kt_store.specs.declared.store.CkptStore.{Ghosts}

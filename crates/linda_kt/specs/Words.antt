@@ -1,5 +1,8 @@
 -- The words of the command line.
-use Rattle.std.specs.Prelude.{◌≡◌, ◌≢◌, ◌⊎◌, Bool, true, false, not, ◌&&◌, List, [], ◌∷◌, Option, None, Some, refl, codes}
+-- Cited by Grammar, Statuses, program.rt, specs/Status, words.rt, `program::run_arguments`, `words::has_flag`,
+--   `words::read_words`.
+use Rattle.std.specs.Prelude.{◌≡◌, ◌≢◌, ◌⊎◌, Bool, true, false, not, ◌&&◌, List, [], ◌∷◌, Option, None, Some, refl}
+use Rattle.std.specs.Prelude.{codes}
 use Rattle.std.specs.Prelude.{is_some, option_map, option_and_then, unwrap_or, if◌then◌else◌}
 use Rattle.clap.specs.Words.{App, IsAmong, Kinds, Row, Rule, Shape, Text, fault_of, first_of, new_app, new_rule}
 use Rattle.clap.specs.Words.{subcommand_of, with_subcommand}
@@ -123,7 +126,8 @@ replay_passes = (refl, refl)
 
 -- a file is named behind `--store`, as a word of its own or behind `=`
 pub store_passes : (words_fault (codes "replay" ∷ codes "--store" ∷ codes "a.db" ∷ []) ≡ [])
-    × (asked_by (codes "replay" ∷ codes "--store" ∷ codes "a.db" ∷ []) ≡ Some (Makes (Replay Open) (Some (codes "a.db"))))
+    × (asked_by (codes "replay" ∷ codes "--store" ∷ codes "a.db" ∷ [])
+    ≡ Some (Makes (Replay Open) (Some (codes "a.db"))))
     × (words_fault (codes "replay" ∷ codes "--store=a.db" ∷ []) ≡ [])
     × (asked_by (codes "replay" ∷ codes "--store=a.db" ∷ []) ≡ Some (Makes (Replay Open) (Some (codes "a.db"))))
 unfolding clap_on_literals

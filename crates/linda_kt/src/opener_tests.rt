@@ -1,4 +1,5 @@
 //! The program over an opener that notes what it is asked.
+//! Cited by whoever calls the trait `Carries` or `Opens`.
 use crate::program::run_program;
 use crate::tests::{PUT_AND_TAKE, PUT_AND_TAKE_REPORT};
 use kt_command::{Carries, Opens};

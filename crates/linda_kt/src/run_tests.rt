@@ -1,4 +1,5 @@
 //! Runs by the program: its words, its output, its line on the errors and its status.
+//! Cited by no other file of crates/.
 use crate::tests::run;
 use kt_command::end_run;
 use kt_run::RunTextFault;

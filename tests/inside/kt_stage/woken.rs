@@ -1,8 +1,8 @@
 //! No wake is lost: after each step of random schedules each node that sleeps, and was not woken, has no next step.
 //! A lost wake would hang no run and end none, since the last that would sleep looks at all; so no run can show it.
 
-use crate::desk::Desk;
-use crate::stage::{Flags, Floor};
+use crate::locked_journal::LockedJournal;
+use crate::stage::{Flags, RunState};
 use crate::{Naming, Seat, Stage, node_count};
 use kt_core::{Fault, FaultKind, Faults, Scene, Script, World};
 use kt_script::{Actual, Actuals, Command, Operation, Pattern, Slot};
@@ -97,7 +97,7 @@ fn faults(alloc: Global, draws: &mut Draws, nodes: &[NodeId]) -> Result<Faults, 
 /// How many nodes sleep that have a next step.
 fn lost<S: CkptStore, L: Naming>(
     alloc: Global,
-    desk: &mut Desk<S, L>,
+    locked: &mut LockedJournal<S, L>,
     faults: &Faults,
     nodes: &[NodeId],
     asleep: &Flags,
@@ -105,7 +105,7 @@ fn lost<S: CkptStore, L: Naming>(
     let mut lost = 0;
     for (place, node) in nodes.iter().enumerate() {
         if asleep[place] {
-            let next = desk.next_for(alloc, faults, *node);
+            let next = locked.next_for(alloc, faults, *node);
             if next.ok().ok_or("the store is asked")?.is_some() {
                 lost += 1;
             }
@@ -125,28 +125,28 @@ fn awake(draws: &mut Draws, count: usize, asleep: &Flags) -> Option<usize> {
 }
 
 /// One schedule: a node that is awake makes some of its steps, or falls asleep where it has none, until all sleep.
-fn play<S: CkptStore, L: Naming>(
+fn take_turns<S: CkptStore, L: Naming>(
     alloc: Global,
-    floor: &mut Floor<S, L>,
+    run_state: &mut RunState<S, L>,
     seats: &mut [Seat<L>],
     nodes: &[NodeId],
     draws: &mut Draws,
     seen: &mut Seen,
 ) -> Result<(), Fail> {
-    while let Some(place) = awake(draws, nodes.len(), &floor.asleep) {
+    while let Some(place) = awake(draws, nodes.len(), &run_state.asleep) {
         for _ in 0..1 + draws.below(3) {
-            let next = floor.desk.next_for(alloc, &floor.faults, nodes[place]);
+            let next = run_state.locked.next_for(alloc, &run_state.faults, nodes[place]);
             let Some(step) = next.ok().ok_or("the store is asked")? else {
-                floor.asleep[place] = true;
+                run_state.asleep[place] = true;
                 break;
             };
             let mut woken = [false; MAX_NODES];
-            let made = floor.act(alloc, &mut seats[place], step, nodes, &mut woken);
+            let made = run_state.act(alloc, &mut seats[place], step, nodes, &mut woken);
             made.ok().ok_or("a next step is made")?;
-            floor.faults.spend(&step);
+            run_state.faults.spend(&step);
             seen.steps += 1;
             seen.woken += woken.iter().filter(|is_one| **is_one).count() as u64;
-            seen.lost += lost(alloc, &mut floor.desk, &floor.faults, nodes, &floor.asleep)?;
+            seen.lost += lost(alloc, &mut run_state.locked, &run_state.faults, nodes, &run_state.asleep)?;
         }
     }
     Ok(())
@@ -160,10 +160,10 @@ fn play_all<L: Naming>(
     seen: &mut Seen,
 ) -> Result<(), Fail> {
     let (mut stage, mut seats) = Stage::<MemStore, L>::open(alloc, world, blank)?;
-    let Stage { floor, nodes, .. } = &mut stage;
-    let floor = floor.get_mut();
-    floor.faults = faults(alloc, draws, nodes)?;
-    play(alloc, floor, &mut seats, nodes, draws, seen)
+    let Stage { run_state, nodes, .. } = &mut stage;
+    let run_state = run_state.get_mut();
+    run_state.faults = faults(alloc, draws, nodes)?;
+    take_turns(alloc, run_state, &mut seats, nodes, draws, seen)
 }
 
 #[test]

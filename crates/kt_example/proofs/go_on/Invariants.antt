@@ -1,3 +1,4 @@
+-- Of `go_on` in src/main.rt.
 use Rattle.std.specs.Prelude.{IsTrue}
 use Rattle.kt_example.proofs.go_on.Given as goal
 

@@ -1,3 +1,4 @@
+-- Of `history_of` in src/main.rt.
 use Rattle.kt_example.proofs.history_of.Goals as goal
 
 pub returns : goal.returns

@@ -1,3 +1,4 @@
+-- Of `try_step` in src/main.rt.
 use Rattle.std.proofs.Common.{refl}
 use Rattle.kt_example.proofs.try_step.Goals as goal
 

@@ -1,21 +1,21 @@
 //! The bytes of a shard's and of a worker's checkpoint, against bytes worked out by hand.
 
 use crate::stored::{FIRST_WORKER, SHARD};
-use kt_ckpt::{Ckpt, CkptError, Marks, State};
+use kt_ckpt::{Ckpt, CkptError, CkptHeader, State};
 use kt_link::Label;
 use kt_tuple::{NodeId, Value};
 use std::alloc::Global;
 use std::process::Abort;
 use std::test::*;
 
-/// The second worker: a line of five acts, two neighbours, the next command is the fourth, the last request has
+/// The second worker: a log of five acts, two neighbours, the next command is the fourth, the last request has
 /// the number 2 and no answer yet, `inp ("a", ?int, ?bool)`, the last answer was none, and the variables are -1, `hi`
 /// and `true`. It issued `out ("hi", true)` and accepted its answer, issued the second request, sent it once more, and
 /// ignored a late answer to the first.
 const WORKER: [u8; 237] = [
     0x4b, 0x54, 0x43, 0x50, 2, // magic, version
     1, 2, // the second worker
-    0, 0, 0, 0, 0, 0, 0, 5, // line length
+    0, 0, 0, 0, 0, 0, 0, 5, // log length
     2, // two neighbours
     0, 0, 0, 0, 0, 0, 0, 1, 0, 0, 0, 0, 0, 0, 0, 3, // sent to the first
     0, 0, 0, 0, 0, 0, 0, 2, 0, 0, 0, 0, 0, 0, 1, 0, // received from the first
@@ -208,24 +208,24 @@ fn fields(rt: HostRuntime) -> Result<(), Fail> {
 }
 
 /// How many bytes of `WORKER` stand before its state.
-const WORKER_MARKS: usize = 80;
+const WORKER_HEADER: usize = 80;
 
-/// The marks are those of the checkpoint. The state behind them may be cut or be none: it is not looked at.
+/// The header is that of the checkpoint. The state behind it may be cut or be none: it is not looked at.
 #[test]
-fn marks(rt: HostRuntime) -> Result<(), Fail> {
+fn header(rt: HostRuntime) -> Result<(), Fail> {
     let ckpt = Ckpt::decode(rt.alloc(), &WORKER)
         .ok()
         .ok_or("the bytes are a checkpoint")?;
-    for bytes in [&WORKER[..], &WORKER[..WORKER_MARKS]] {
-        let marks = Marks::decode(rt.alloc(), bytes)
+    for bytes in [&WORKER[..], &WORKER[..WORKER_HEADER]] {
+        let header = CkptHeader::decode(rt.alloc(), bytes)
             .ok()
             .ok_or("the bytes begin with marks")?;
-        assert_eq!(rt; marks.node(), ckpt.node());
-        assert_eq!(rt; marks.line_len(), ckpt.line_len());
-        assert!(rt; marks.sent() == ckpt.sent() && marks.received() == ckpt.received());
+        assert_eq!(rt; header.node(), ckpt.node());
+        assert_eq!(rt; header.line_len(), ckpt.line_len());
+        assert!(rt; header.sent() == ckpt.sent() && header.received() == ckpt.received());
     }
-    for n in 0..WORKER_MARKS {
-        assert!(rt; matches!(Marks::decode(rt.alloc(), &WORKER[..n]), Err(CkptError::Cut)));
+    for n in 0..WORKER_HEADER {
+        assert!(rt; matches!(CkptHeader::decode(rt.alloc(), &WORKER[..n]), Err(CkptError::Cut)));
     }
     Ok(())
 }

@@ -152,7 +152,7 @@ fn push_value(out: &mut Vec<u8>, draws: &mut Draws) -> Result<(), AllocError> {
     Ok(())
 }
 
-/// A place in a line, counted from 1.
+/// A place in a log, counted from 1.
 fn push_place_in_line(out: &mut Vec<u8>, draws: &mut Draws) -> Result<(), AllocError> {
     push_drawn(out, draws, 7)?;
     Ok(out.push(draws.byte(1, 255))?)

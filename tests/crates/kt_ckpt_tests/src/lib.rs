@@ -1,5 +1,5 @@
 //! The bytes of checkpoints worked out by hand from the format, and of 500 drawn at random, both ways; and the acts of
-//! lines, as checkpoints hold them.
+//! logs, as checkpoints hold them.
 #![tactic(auto)]
 
 #[cfg(test)]

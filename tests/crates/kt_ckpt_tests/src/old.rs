@@ -1,9 +1,9 @@
-//! Checkpoints in format 1: what is read of them with the acts of a line, and which fault is told of others.
+//! Checkpoints in format 1: what is read of them with the acts of a log, and which fault is told of others.
 
 use crate::drawn::checkpoint;
 use crate::random::is_same;
 use crate::stored::{FIRST_WORKER, OLD_SHARD_LEN, OLD_WORKER_LEN, SHARD};
-use kt_ckpt::{Ckpt, CkptError, LineAct};
+use kt_ckpt::{Ckpt, CkptError, LogAct};
 use kt_draws::Draws;
 use std::alloc::{AllocError, Global};
 use std::process::Abort;
@@ -18,7 +18,7 @@ fn now(alloc: Global, bytes: &[u8]) -> Result<Ckpt, Fail> {
     )
 }
 
-fn copied(alloc: Global, acts: &[LineAct]) -> Result<Vec<LineAct>, AllocError> {
+fn copied(alloc: Global, acts: &[LogAct]) -> Result<Vec<LogAct>, AllocError> {
     let mut copies = Vec::with_capacity(alloc, acts.len())?;
     for act in acts {
         copies.push(act.copy(alloc)?)?;
@@ -27,7 +27,7 @@ fn copied(alloc: Global, acts: &[LineAct]) -> Result<Vec<LineAct>, AllocError> {
 }
 
 /// Copies of its acts.
-fn acts_of(alloc: Global, ckpt: &Ckpt) -> Result<Vec<LineAct>, AllocError> {
+fn acts_of(alloc: Global, ckpt: &Ckpt) -> Result<Vec<LogAct>, AllocError> {
     let mut copies = Vec::new(alloc);
     for act in ckpt.acts().listed(alloc)? {
         copies.push(act.copy(alloc)?)?;
@@ -47,7 +47,7 @@ fn shard_in_format_1(alloc: Global) -> Result<Vec<u8>, Fail> {
 }
 
 /// What is answered of bytes with these acts.
-fn read(alloc: Global, bytes: &[u8], acts: &[LineAct]) -> Result<Result<(), CkptError>, Fail> {
+fn read(alloc: Global, bytes: &[u8], acts: &[LogAct]) -> Result<Result<(), CkptError>, Fail> {
     Ok(
         match Ckpt::decode_old(alloc, bytes, copied(alloc, acts)?) {
             Ok(_) => Ok(()),
@@ -76,7 +76,7 @@ fn both_ways(rt: HostRuntime) -> Result<(), Fail> {
     Ok(())
 }
 
-/// With another number of acts, or those of another node, the length of the line is a bad field.
+/// With another number of acts, or those of another node, the length of the log is a bad field.
 #[test]
 fn other_acts(rt: HostRuntime) -> Result<(), Fail> {
     let alloc = rt.alloc();
@@ -94,7 +94,7 @@ fn other_acts(rt: HostRuntime) -> Result<(), Fail> {
     Ok(())
 }
 
-/// The acts are judged behind the length of the line: what is cut before it is cut, and what is wrong behind it is not
+/// The acts are judged behind the length of the log: what is cut before it is cut, and what is wrong behind it is not
 /// looked at.
 #[test]
 fn acts_are_judged_at_the_line_length(rt: HostRuntime) -> Result<(), Fail> {

@@ -1,6 +1,6 @@
-//! Pasts that look random: the acts of a line are those that the notes say, whatever was gathered when.
+//! Pasts that look random: the acts of a log are those that the notes say, whatever was gathered when.
 
-use kt_ckpt::{Acts, LineAct, Past};
+use kt_ckpt::{Acts, LogAct, Past};
 use kt_draws::Draws;
 use kt_history::{Act, Note, What};
 use kt_tuple::{Answer, NodeId, Op, Tuple, Value};
@@ -27,8 +27,8 @@ fn place(notes: &[Note], node: NodeId, number: u64) -> u64 {
     place
 }
 
-/// Whether the line has the act of this number in this form.
-fn is_said(past: &Past, number: u64, said: &LineAct) -> bool {
+/// Whether the log has the act of this number in this form.
+fn is_said(past: &Past, number: u64, said: &LogAct) -> bool {
     let history = past.history();
     let Some(act) = history.act(number) else {
         return false;
@@ -39,7 +39,7 @@ fn is_said(past: &Past, number: u64, said: &LineAct) -> bool {
     is_same && said.op == act.op && said.what == act.what
 }
 
-/// Whether the acts of this number may stand in the node's line: none is served or heard of itself.
+/// Whether the acts of this number may stand in the node's log: none is served or heard of itself.
 fn fits(past: &Past, numbers: &[u64]) -> bool {
     numbers.iter().all(|number| match past.history().act(*number) {
         Some(act) => matches!(act.what, What::Issue) == (act.by == 0),
@@ -47,7 +47,7 @@ fn fits(past: &Past, numbers: &[u64]) -> bool {
     })
 }
 
-/// Whether these are the acts of the node's line, where each may stand in it, and none are given where one may not.
+/// Whether these are the acts of the node's log, where each may stand in it, and none are given where one may not.
 fn are_said(
     alloc: Global,
     past: &Past,
@@ -194,7 +194,7 @@ fn a_long_chain_is_dropped(rt: HostRuntime) -> Result<(), Fail> {
     let first = act(alloc, &past, &mut draws, NODES[0])?;
     let mut acts = Acts::none();
     for number in 0..100_000u64 {
-        let act = LineAct {
+        let act = LogAct {
             by: None,
             worker: first.worker,
             number,

@@ -4,7 +4,7 @@ use crate::drawn::checkpoint;
 use crate::seen::Seen;
 use kt_ckpt::{Acts, Ckpt, CkptError, MAX_PEERS, ShardState, State, WorkerState};
 use kt_draws::Draws;
-use kt_shard::{Kept, Request};
+use kt_shard::{CachedReply, Request};
 use kt_tuple::Op;
 use std::alloc::{AllocError, Global};
 use std::test::*;
@@ -76,7 +76,7 @@ fn is_same_asked(a: Option<&Op>, b: Option<&Op>) -> bool {
 fn is_same_shard(a: &ShardState, b: &ShardState) -> bool {
     a.bag() == b.bag()
         && is_same_waiting(a.waiting(), b.waiting())
-        && is_same_kept(a.kept(), b.kept())
+        && is_same_kept(a.cached(), b.cached())
 }
 
 fn is_same_waiting(a: &[(u8, Request)], b: &[(u8, Request)]) -> bool {
@@ -88,7 +88,7 @@ fn is_same_waiting(a: &[(u8, Request)], b: &[(u8, Request)]) -> bool {
     a.len() == b.len()
 }
 
-fn is_same_kept(a: &[(u8, Kept)], b: &[(u8, Kept)]) -> bool {
+fn is_same_kept(a: &[(u8, CachedReply)], b: &[(u8, CachedReply)]) -> bool {
     for (a, b) in a.iter().zip(b) {
         if a.0 != b.0 || !is_same_request(&a.1.request, &b.1.request) || a.1.answer != b.1.answer {
             return false;
@@ -125,8 +125,8 @@ fn state_made_again(state: State) -> State {
             State::Worker(WorkerState::new(pc, number, was_none, asked, variables))
         }
         State::Shard(shard) => {
-            let (bag, waiting, kept) = shard.into_parts();
-            State::Shard(ShardState::new(bag, waiting, kept))
+            let (bag, waiting, cached) = shard.into_parts();
+            State::Shard(ShardState::new(bag, waiting, cached))
         }
     }
 }

@@ -1,6 +1,6 @@
 //! Which operations, answers, values and acts were among the checkpoints.
 
-use kt_ckpt::{LineAct, State};
+use kt_ckpt::{LogAct, State};
 use kt_history::What;
 use kt_tuple::{Answer, Op, Value};
 
@@ -46,7 +46,7 @@ impl Seen {
                 for entry in shard.waiting() {
                     self.see_op(&entry.1.op);
                 }
-                for entry in shard.kept() {
+                for entry in shard.cached() {
                     self.see_op(&entry.1.request.op);
                     self.see_answer(&entry.1.answer);
                 }
@@ -55,7 +55,7 @@ impl Seen {
     }
 
     /// These acts are seen.
-    pub(crate) fn see_acts(&mut self, acts: &[&LineAct]) {
+    pub(crate) fn see_acts(&mut self, acts: &[&LogAct]) {
         for act in acts {
             let place = match act.what {
                 What::Issue => 0,

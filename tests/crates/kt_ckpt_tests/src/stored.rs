@@ -1,12 +1,12 @@
 //! The bytes of the two checkpoints that a check of a worker and a shard leaves, worked out by hand.
 
-/// The first worker: a line of two acts, one neighbour with all labels `(1, 1)`, the next command is the second, the
+/// The first worker: a log of two acts, one neighbour with all labels `(1, 1)`, the next command is the second, the
 /// last request has the number 1 and is answered, the last answer was not none, and there are no variables. It issued
 /// `out ("a", 1)` and accepted the answer to it, which is the second act of the first shard.
 pub const FIRST_WORKER: [u8; 122] = [
     0x4b, 0x54, 0x43, 0x50, 2, // magic, version
     1, 1, // the first worker
-    0, 0, 0, 0, 0, 0, 0, 2, // line length
+    0, 0, 0, 0, 0, 0, 0, 2, // log length
     1, // one neighbour
     0, 0, 0, 0, 0, 0, 0, 1, 0, 0, 0, 0, 0, 0, 0, 1, // sent
     0, 0, 0, 0, 0, 0, 0, 1, 0, 0, 0, 0, 0, 0, 0, 1, // received
@@ -25,13 +25,13 @@ pub const FIRST_WORKER: [u8; 122] = [
     0, // done
 ];
 
-/// The first shard: a line of two acts, one neighbour with all labels `(1, 1)`, the tuple `("a", 1)`, nobody
+/// The first shard: a log of two acts, one neighbour with all labels `(1, 1)`, the tuple `("a", 1)`, nobody
 /// waits, and for the first worker the first request is kept: `out ("a", 1)`, done. It heard this request, the first
 /// act of the first worker, and served it.
 pub const SHARD: [u8; 162] = [
     0x4b, 0x54, 0x43, 0x50, 2, // magic, version
     2, 1, // the first shard
-    0, 0, 0, 0, 0, 0, 0, 2, // line length
+    0, 0, 0, 0, 0, 0, 0, 2, // log length
     1, // one neighbour
     0, 0, 0, 0, 0, 0, 0, 1, 0, 0, 0, 0, 0, 0, 0, 1, // sent
     0, 0, 0, 0, 0, 0, 0, 1, 0, 0, 0, 0, 0, 0, 0, 1, // received

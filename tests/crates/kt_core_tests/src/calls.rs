@@ -136,8 +136,8 @@ fn has_one_check(rt: &impl Abort, alloc: Global, store: &mut MemStore) {
     assert!(rt; store.is_fresh() == Ok(false));
     assert!(rt; store.next_instance() == Ok(2));
     assert!(rt; store.open_of(WORKER_1) == Ok(Some(1)));
-    match store.tentative_marks(alloc, WORKER_1) {
-        Ok(Some(taken)) => assert!(rt; taken.instance == 1 && taken.marks.line_len() == 2),
+    match store.tentative_header(alloc, WORKER_1) {
+        Ok(Some(taken)) => assert!(rt; taken.instance == 1 && taken.header.line_len() == 2),
         _ => assert!(rt; false, "a checkpoint"),
     }
 }

@@ -23,7 +23,7 @@ fn make(rt: &impl Abort, alloc: Global, world: &mut Game, lines: &[&str]) -> Res
 /// The number that is asked, if this is a request.
 fn asked_in(message: Option<&Message>) -> Option<u64> {
     match message {
-        Some(Message::Post(post)) => match &post.talk {
+        Some(Message::App(app)) => match &app.talk {
             Talk::Request(request) => Some(request.number),
             Talk::Reply { .. } => None,
         },

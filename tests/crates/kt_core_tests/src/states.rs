@@ -1,13 +1,13 @@
-//! What a stored checkpoint must hold: the acts of its node's line up to its length, and what they make of a node,
+//! What a stored checkpoint must hold: the acts of its node's log up to its length, and what they make of a node,
 //! worked out act by act.
 
-use kt_ckpt::{Ckpt, LineAct, ShardState, State, WorkerState};
+use kt_ckpt::{Ckpt, LogAct, ShardState, State, WorkerState};
 use kt_history::{Act, Note, What};
 use kt_script::Script;
-use kt_shard::{Kept, Request};
+use kt_shard::{CachedReply, Request};
 use kt_store::{CkptStore, MemStore, Verdict};
 use kt_tuple::{Answer, MAX_WORKERS, NodeId};
-use kt_walk::cast::Cast;
+use kt_walk::scene_size::SceneSize;
 use kt_walk::finding::{Finding, holds};
 use kt_walk::runs::{are_same, space_after};
 use kt_walk::slowly::{line_after, note_at};
@@ -60,7 +60,7 @@ fn is_worker(state: &WorkerState, worker: &Worker) -> bool {
 }
 
 /// The request of the worker that waits after these acts, and the one that was served last, with its answer.
-fn desk_after<'a>(
+fn session_after<'a>(
     notes: &'a [Note],
     acts: &[usize],
     worker: u8,
@@ -96,7 +96,7 @@ fn is_waiting(found: Option<&Act>, stored: Option<&(u8, Request)>) -> bool {
     }
 }
 
-fn is_kept(found: Option<(&Act, &Answer)>, stored: Option<&(u8, Kept)>) -> bool {
+fn is_kept(found: Option<(&Act, &Answer)>, stored: Option<&(u8, CachedReply)>) -> bool {
     match (found, stored) {
         (Some((act, answer)), Some((_, kept))) => {
             is_request(act, &kept.request) && *answer == kept.answer
@@ -107,11 +107,11 @@ fn is_kept(found: Option<(&Act, &Answer)>, stored: Option<&(u8, Kept)>) -> bool 
 }
 
 /// Whether the state has of each worker what these acts leave of it.
-fn are_desks(state: &ShardState, notes: &[Note], acts: &[usize]) -> bool {
+fn are_sessions(state: &ShardState, notes: &[Note], acts: &[usize]) -> bool {
     (1..=MAX_WORKERS).all(|worker| {
-        let (waiting, kept) = desk_after(notes, acts, worker);
+        let (waiting, kept) = session_after(notes, acts, worker);
         is_waiting(waiting, state.waiting().iter().find(|it| it.0 == worker))
-            && is_kept(kept, state.kept().iter().find(|it| it.0 == worker))
+            && is_kept(kept, state.cached().iter().find(|it| it.0 == worker))
     })
 }
 
@@ -131,7 +131,7 @@ fn holds_shard(
     let space = space_after(alloc, notes, &services)?;
     holds(are_same(state.bag(), &space), "the tuples of a checkpoint")?;
     holds(
-        are_desks(state, notes, acts),
+        are_sessions(state, notes, acts),
         "the requests of a checkpoint",
     )
 }
@@ -146,7 +146,7 @@ fn placed(alloc: Global, notes: &[Note], number: usize) -> Result<Option<(NodeId
 }
 
 /// The checkpoint says of the act of this number what happened.
-fn holds_act(alloc: Global, found: &LineAct, notes: &[Note], number: usize) -> Result<(), Finding> {
+fn holds_act(alloc: Global, found: &LogAct, notes: &[Note], number: usize) -> Result<(), Finding> {
     let act = act_at(notes, number).ok_or(Finding::NotMade("an act"))?;
     let is_same = found.worker == act.worker && found.number == act.number;
     holds(
@@ -196,17 +196,17 @@ fn holds_state(
     }
 }
 
-/// Each permanent checkpoint, and each tentative one whose instance did not get No, holds the acts of its node's line
+/// Each permanent checkpoint, and each tentative one whose instance did not get No, holds the acts of its node's log
 /// up to its length, and the state that they lead to.
 pub(crate) fn agree(
     alloc: Global,
     store: &mut MemStore,
     notes: &[Note],
     scripts: &[Script],
-    cast: Cast,
+    size: SceneSize,
 ) -> Result<(), Finding> {
-    for place in 0..cast.count() {
-        let node = cast.node(place);
+    for place in 0..size.count() {
+        let node = size.node(place);
         if let Some(checkpoint) = store.permanent(alloc, node)? {
             holds_state(alloc, &checkpoint, notes, scripts)?;
         }

@@ -4,7 +4,7 @@ use crate::states;
 use kt_core::World;
 use kt_store::MemStore;
 use kt_tuple::Tuple;
-use kt_walk::cast::Cast;
+use kt_walk::scene_size::SceneSize;
 use kt_walk::cuts;
 use kt_walk::finding::Finding;
 use kt_walk::fronts::agrees;
@@ -36,14 +36,14 @@ fn all_agrees(
     world: &Game,
     store: &mut MemStore,
     permanent: &[Tuple],
-    cast: Cast,
+    size: SceneSize,
 ) -> Result<(), Finding> {
     let notes = world.history().notes();
     let mut pasts = Pasts::new(alloc)?;
     pasts.go_on(alloc, notes)?;
     agrees(alloc, world, &pasts)?;
-    cuts::agrees(alloc, store, permanent, notes, cast, &pasts)?;
-    states::agree(alloc, store, notes, world.scene().scripts(), cast)
+    cuts::agrees(alloc, store, permanent, notes, size, &pasts)?;
+    states::agree(alloc, store, notes, world.scene().scripts(), size)
 }
 
 fn holds_after(
@@ -56,7 +56,7 @@ fn holds_after(
     let mut again = played(alloc, scenario, count)?;
     let permanent = again.permanent_space(alloc).map_err(|_| "a store")?;
     let mut store = again.into_store();
-    let found = all_agrees(alloc, &world, &mut store, &permanent, scenario.cast);
+    let found = all_agrees(alloc, &world, &mut store, &permanent, scenario.size);
     assert!(rt; found.is_ok(), "{found:?} after {count} steps");
     Ok(())
 }

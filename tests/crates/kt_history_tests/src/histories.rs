@@ -108,7 +108,7 @@ fn cascade(rt: HostRuntime) -> Result<(), Fail> {
     assert_eq!(rt; history.line(w2), [4, 7, 8].as_slice());
 
     cut(&rt, &mut history, w1, 0)?;
-    // The second request of w2 has no cause, and all of its line stands: what is lost lies further back.
+    // The second request of w2 has no cause, and all of its log stands: what is lost lies further back.
     assert!(rt; !history.survives(8));
     assert_eq!(rt; history.line(w2), [4, 7, 8].as_slice());
     only_the_other_survives(&rt, alloc, &history)?;

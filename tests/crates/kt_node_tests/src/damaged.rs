@@ -1,4 +1,4 @@
-//! Stored checkpoints that do not fit the node, and acts that may not stand in its line. What a step is refused for
+//! Stored checkpoints that do not fit the node, and acts that may not stand in its log. What a step is refused for
 //! without them comes before.
 
 use crate::cases::{SHARD_1, WORKER_1, tells, tells_of};

@@ -1,4 +1,4 @@
-//! Nodes that fail. The line is cut to the tentative checkpoint if there is one whose verdict is not No, else to the
+//! Nodes that fail. The log is cut to the tentative checkpoint if there is one whose verdict is not No, else to the
 //! permanent one.
 
 use crate::cases::{SHARD_1, WORKER_1, tells};

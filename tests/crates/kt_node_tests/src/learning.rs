@@ -58,7 +58,7 @@ fn a_rolling_initiator_learns_nothing(rt: HostRuntime) -> Result<(), Fail> {
     )
 }
 
-/// With Yes the line is cut to the permanent checkpoint, the permanent state is loaded and labels begin anew; with No
+/// With Yes the log is cut to the permanent checkpoint, the permanent state is loaded and labels begin anew; with No
 /// the node goes on as it was.
 #[test]
 fn a_rolling_participant_learns(rt: HostRuntime) -> Result<(), Fail> {
@@ -103,7 +103,7 @@ fn a_rolling_participant_learns(rt: HostRuntime) -> Result<(), Fail> {
     )
 }
 
-/// It stays down. With No its line is cut to the permanent checkpoint.
+/// It stays down. With No its log is cut to the permanent checkpoint.
 #[test]
 fn a_node_that_is_down_learns_of_its_tentative_checkpoint(rt: HostRuntime) -> Result<(), Fail> {
     tells(

@@ -4,7 +4,7 @@ use itoa::Buffer;
 use kt_ckpt::{Ckpt, State};
 use kt_history::{Act, Note, What};
 use kt_link::Label;
-use kt_node::{Ask, Message, Mode, Node, Plan, Post, Refusal, Talk, Write};
+use kt_node::{Ask, Message, Mode, Node, Plan, AppMessage, Refusal, Talk, Write};
 use kt_tuple::{Answer, NodeId, Op};
 use kt_vote::{Asker, Ballot, Vote};
 use std::alloc::{AllocError, Global};
@@ -138,7 +138,7 @@ impl Line {
 
     fn message(&mut self, message: &Message) -> Result<(), AllocError> {
         match message {
-            Message::Post(post) => self.post(post),
+            Message::App(app) => self.app(app),
             Message::CheckAsk(ask) => self.ask(": check-ask ", *ask),
             Message::RollAsk(ask) => self.ask(": roll-ask ", *ask),
             Message::Vote(vote) => self.vote(*vote),
@@ -150,14 +150,14 @@ impl Line {
         }
     }
 
-    fn post(&mut self, post: &Post) -> Result<(), AllocError> {
-        match &post.talk {
+    fn app(&mut self, app: &AppMessage) -> Result<(), AllocError> {
+        match &app.talk {
             Talk::Request(request) => {
-                self.head(": request ", request.number, post)?;
+                self.head(": request ", request.number, app)?;
                 self.op(&request.op)
             }
             Talk::Reply { request, answer } => {
-                self.head(": reply ", request.number, post)?;
+                self.head(": reply ", request.number, app)?;
                 self.answer(answer)?;
                 self.word(" to")?;
                 self.op(&request.op)
@@ -165,12 +165,12 @@ impl Line {
         }
     }
 
-    fn head(&mut self, kind: &str, number: u64, post: &Post) -> Result<(), AllocError> {
+    fn head(&mut self, kind: &str, number: u64, app: &AppMessage) -> Result<(), AllocError> {
         self.word(kind)?;
         self.number(number)?;
-        self.label(post.label)?;
+        self.label(app.label)?;
         self.word(" by ")?;
-        self.act_number(post.by)
+        self.act_number(app.by)
     }
 
     fn ask(&mut self, kind: &str, ask: Ask) -> Result<(), AllocError> {
@@ -283,7 +283,7 @@ impl Line {
                 self.word(" waiting ")?;
                 self.number(shard.waiting().len() as u64)?;
                 self.word(" kept ")?;
-                self.number(shard.kept().len() as u64)
+                self.number(shard.cached().len() as u64)
             }
         }
     }

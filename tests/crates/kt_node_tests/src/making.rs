@@ -1,7 +1,7 @@
 //! Scripts and steps, made of their texts.
 
 use crate::words::{answer, first_word, is_yes, label, node, number, op, small};
-use kt_node::{Ask, Post, Talk};
+use kt_node::{Ask, AppMessage, Talk};
 use kt_script::{Actual, Actuals, Command, Operation, Pattern, Script, Slot};
 use kt_shard::Request;
 use kt_tuple::{NodeId, Place, Template, Tuple};
@@ -67,7 +67,7 @@ pub(crate) enum Call {
     Learn,
     Fail,
     Restart,
-    Post(NodeId, Post),
+    AppMessage(NodeId, AppMessage),
     CheckAsk(NodeId, Ask),
     RollAsk(NodeId, Ask),
     Vote(NodeId, Vote),
@@ -111,8 +111,8 @@ fn serve(text: &str) -> Result<Call, Fail> {
 fn arrival(alloc: Global, from: NodeId, text: &str) -> Result<Call, Fail> {
     let (word, rest) = first_word(text)?;
     match word {
-        "request" => Ok(Call::Post(from, request(alloc, rest)?)),
-        "reply" => Ok(Call::Post(from, reply(alloc, rest)?)),
+        "request" => Ok(Call::AppMessage(from, request(alloc, rest)?)),
+        "reply" => Ok(Call::AppMessage(from, reply(alloc, rest)?)),
         "check-ask" => Ok(Call::CheckAsk(from, ask(rest)?)),
         "roll-ask" => Ok(Call::RollAsk(from, ask(rest)?)),
         "vote" => Ok(Call::Vote(from, vote(rest)?)),
@@ -122,7 +122,7 @@ fn arrival(alloc: Global, from: NodeId, text: &str) -> Result<Call, Fail> {
 }
 
 /// `1 1.1 by 1 out (1)`: the number of the request, the label, the cause, what is asked.
-fn request(alloc: Global, text: &str) -> Result<Post, Fail> {
+fn request(alloc: Global, text: &str) -> Result<AppMessage, Fail> {
     let (front, rest) = text.split_once(" by ").ok_or("a cause")?;
     let (by, asked) = first_word(rest)?;
     let (count, sent) = first_word(front)?;
@@ -131,16 +131,16 @@ fn request(alloc: Global, text: &str) -> Result<Post, Fail> {
         number: number_asked,
         op: op(alloc, asked)?,
     });
-    post(talk, sent, by)
+    app(talk, sent, by)
 }
 
 /// `1 1.1 by 3 done to out (1)`: the number of the request, the label, the cause, the answer, what was asked.
-fn reply(alloc: Global, text: &str) -> Result<Post, Fail> {
+fn reply(alloc: Global, text: &str) -> Result<AppMessage, Fail> {
     let (front, rest) = text.split_once(" by ").ok_or("a cause")?;
     let (by, rest) = first_word(rest)?;
     let (said, asked) = rest.split_once(" to ").ok_or("what was asked")?;
     let (count, sent) = first_word(front)?;
-    post(reply_of(alloc, count, said, asked)?, sent, by)
+    app(reply_of(alloc, count, said, asked)?, sent, by)
 }
 
 fn reply_of(alloc: Global, count: &str, said: &str, asked: &str) -> Result<Talk, Fail> {
@@ -153,10 +153,10 @@ fn reply_of(alloc: Global, count: &str, said: &str, asked: &str) -> Result<Talk,
     })
 }
 
-fn post(talk: Talk, sent: &str, by: &str) -> Result<Post, Fail> {
+fn app(talk: Talk, sent: &str, by: &str) -> Result<AppMessage, Fail> {
     let label = label(sent)?;
     let by = number(by)?;
-    Ok(Post { talk, label, by })
+    Ok(AppMessage { talk, label, by })
 }
 
 /// `7 1.1 1`: the instance, the label, the incarnation.

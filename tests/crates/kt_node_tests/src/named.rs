@@ -1,18 +1,18 @@
 //! Steps that many cases begin with, by their names.
 
-/// w1 has asked s1 for `out (1, 1)` and has its answer: 1.1 was sent to s1 and 1.1 was heard of it, and the line has 2
+/// w1 has asked s1 for `out (1, 1)` and has its answer: 1.1 was sent to s1 and 1.1 was heard of it, and the log has 2
 /// acts.
 const ANSWERED: &str = "issue; s1: reply 1 1.1 by 3 done to out (1, 1)";
 
-/// Then w1 has asked s2 for `out (1)` and has its answer: 1.2 was sent to s2 and 1.4 was heard of it, and the line has
+/// Then w1 has asked s2 for `out (1)` and has its answer: 1.2 was sent to s2 and 1.4 was heard of it, and the log has
 /// 4 acts.
 const ANSWERED_BY_BOTH: &str = "issue; s1: reply 1 1.1 by 3 done to out (1, 1); issue; \
     s2: reply 2 1.4 by 9 done to out (1)";
 
-/// s1 has heard of w1 with 1.1: the line has 1 act.
+/// s1 has heard of w1 with 1.1: the log has 1 act.
 const ASKED: &str = "w1: request 1 1.1 by 1 out (1, 1)";
 
-/// Then s1 has served w1, to whom it sent 1.1: the line has 2 acts.
+/// Then s1 has served w1, to whom it sent 1.1: the log has 2 acts.
 const SERVED: &str = "w1: request 1 1.1 by 1 out (1, 1); serve w1 0 by 1";
 
 /// A check of one's own in which s1, or w1, says yes: its checkpoint is permanent.

@@ -2,15 +2,15 @@
 
 use crate::making::Call;
 use crate::solo::Solo;
-use kt_ckpt::{Ckpt, Marks};
+use kt_ckpt::{Ckpt, CkptHeader};
 use kt_node::{Change, Mode, Plan, Refusal, Role, Stored, View};
 use kt_tuple::NodeId;
 use std::alloc::{AllocError, Global};
 
 /// All of the checkpoint but its state.
-fn marks_of(alloc: Global, checkpoint: Option<&Ckpt>) -> Result<Option<Marks>, AllocError> {
+fn header_of(alloc: Global, checkpoint: Option<&Ckpt>) -> Result<Option<CkptHeader>, AllocError> {
     match checkpoint {
-        Some(checkpoint) => Ok(Some(checkpoint.marks(alloc)?)),
+        Some(checkpoint) => Ok(Some(checkpoint.header(alloc)?)),
         None => Ok(None),
     }
 }
@@ -49,13 +49,13 @@ impl Solo {
         }
     }
 
-    fn permanent_marks(&self, alloc: Global) -> Result<Option<Marks>, AllocError> {
-        marks_of(alloc, self.permanent.as_ref())
+    fn permanent_header(&self, alloc: Global) -> Result<Option<CkptHeader>, AllocError> {
+        header_of(alloc, self.permanent.as_ref())
     }
 
-    fn tentative_marks(&self, alloc: Global) -> Result<Option<Marks>, AllocError> {
+    fn tentative_header(&self, alloc: Global) -> Result<Option<CkptHeader>, AllocError> {
         match &self.tentative {
-            Some(tentative) => marks_of(alloc, Some(&tentative.checkpoint)),
+            Some(tentative) => header_of(alloc, Some(&tentative.checkpoint)),
             None => Ok(None),
         }
     }
@@ -116,12 +116,12 @@ impl Solo {
         if !can_save(view) {
             return Err(Refusal::OutOfMemory);
         }
-        let permanent = self.permanent_marks(alloc)?;
+        let permanent = self.permanent_header(alloc)?;
         let Call::CheckAsk(from, ask) = call else {
             let next = self.instances.saturating_add(1);
             return view.check(alloc, next, permanent.as_ref());
         };
-        let tentative = self.tentative_marks(alloc)?;
+        let tentative = self.tentative_header(alloc)?;
         let verdict = self.verdict(ask.instance);
         view.hear_check(
             alloc,
@@ -133,12 +133,12 @@ impl Solo {
         )
     }
 
-    /// Calls that read the marks of a checkpoint.
+    /// Calls that read the header of a checkpoint.
     fn reading(&self, alloc: Global, call: &Call) -> Result<Plan, Refusal> {
         let view = self.view();
-        let permanent = self.permanent_marks(alloc)?;
+        let permanent = self.permanent_header(alloc)?;
         let Call::RollAsk(from, ask) = call else {
-            let tentative = self.tentative_marks(alloc)?;
+            let tentative = self.tentative_header(alloc)?;
             return view.fail(
                 alloc,
                 self.own_verdict(),
@@ -160,7 +160,7 @@ impl Solo {
             Call::Serve { worker, place, by } => {
                 view.serve(alloc, *worker, *place, self.act_told(*by))
             }
-            Call::Post(from, post) => view.hear_app(alloc, *from, post),
+            Call::AppMessage(from, app) => view.hear_app(alloc, *from, app),
             Call::Vote(from, vote) => view.hear_vote(alloc, *from, *vote),
             Call::Abandon => view.abandon(alloc, self.own_verdict(), self.undecided()),
             _ => view.decide(alloc, self.own_verdict()),

@@ -3,7 +3,7 @@
 use crate::making::script;
 use kt_ckpt::{Ckpt, MAX_PEERS, Past};
 use kt_history::{Act, Note, What};
-use kt_node::{Node, Post, Role, Talk};
+use kt_node::{Node, AppMessage, Role, Talk};
 use kt_script::Script;
 use kt_store::{Tentative, Verdict};
 use kt_tuple::NodeId;
@@ -110,7 +110,7 @@ impl Solo {
     }
 
     /// The board gets an entry, and so many instances were begun at least.
-    pub(crate) fn post(&mut self, instance: u64, verdict: Verdict) -> Result<(), AllocError> {
+    pub(crate) fn app(&mut self, instance: u64, verdict: Verdict) -> Result<(), AllocError> {
         self.board.push((instance, verdict))?;
         self.instances = self.instances.max(instance);
         Ok(())
@@ -130,9 +130,9 @@ impl Solo {
         &self,
         alloc: Global,
         from: NodeId,
-        post: &Post,
+        app: &AppMessage,
     ) -> Result<Act, AllocError> {
-        let (request, what) = match &post.talk {
+        let (request, what) = match &app.talk {
             Talk::Request(request) => (request, What::Issue),
             Talk::Reply { request, answer } => (request, What::Served(answer.copy(alloc)?)),
         };

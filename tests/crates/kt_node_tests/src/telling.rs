@@ -8,7 +8,7 @@ use crate::words::{first_word, number};
 use kt_ckpt::MAX_PEERS;
 use kt_history::Note;
 use kt_node::{BodyChange, Change, Plan, Write};
-use kt_shard::DESKS;
+use kt_shard::SESSIONS;
 use kt_store::{Tentative, Verdict};
 use kt_tuple::NodeId;
 use std::alloc::{AllocError, Global};
@@ -20,36 +20,36 @@ fn is_placed(node: NodeId) -> bool {
     node.number() <= MAX_PEERS
 }
 
-fn has_desk(change: &BodyChange) -> bool {
+fn has_session(change: &BodyChange) -> bool {
     match change {
-        BodyChange::Wait { worker, .. } => *worker < DESKS,
-        BodyChange::Serve { worker, .. } => *worker < DESKS,
+        BodyChange::Wait { worker, .. } => *worker < SESSIONS,
+        BodyChange::Serve { worker, .. } => *worker < SESSIONS,
         BodyChange::Stay | BodyChange::Work(_) => true,
     }
 }
 
 /// Whether all whom the change names have their places.
 fn can_be_made(change: &Change) -> bool {
-    let Change::Turn(turn) = change else {
+    let Change::Update(update) = change else {
         return true;
     };
-    let turn = turn.get();
-    let is_heard = match turn.heard {
+    let update = update.get();
+    let is_heard = match update.heard {
         Some((from, _)) => is_placed(from),
         None => true,
     };
-    let is_said = match turn.said {
+    let is_said = match update.said {
         Some(to) => is_placed(to),
         None => true,
     };
-    is_heard && is_said && has_desk(&turn.body)
+    is_heard && is_said && has_session(&update.body)
 }
 
 impl Solo {
     /// The node begins an instance.
     fn begin(&mut self) -> Result<u64, AllocError> {
         let instance = self.instances.saturating_add(1);
-        self.post(instance, Verdict::Open)?;
+        self.app(instance, Verdict::Open)?;
         self.own = Some(instance);
         Ok(instance)
     }
@@ -83,12 +83,12 @@ impl Solo {
                 self.incarnation = self.incarnation.saturating_add(1);
             }
             Write::Bump => self.incarnation = self.incarnation.saturating_add(1),
-            Write::Decide { instance, yes } => self.post(instance, Verdict::of(yes))?,
+            Write::Decide { instance, yes } => self.app(instance, Verdict::of(yes))?,
         }
         Ok(())
     }
 
-    /// The line gets the act, or is cut back.
+    /// The log gets the act, or is cut back.
     fn note(&mut self, note: Note) -> Result<(), AllocError> {
         self.past.make_room(note.node())?;
         self.past.add(note);
@@ -98,12 +98,12 @@ impl Solo {
 
     /// The call as it is among all that happened: what it hears is an act of another.
     fn placed(&mut self, alloc: Global, call: Call) -> Result<Call, AllocError> {
-        let Call::Post(from, mut post) = call else {
+        let Call::AppMessage(from, mut app) = call else {
             return Ok(call);
         };
-        let act = self.sending(alloc, from, &post)?;
-        post.by = self.hears_of(act, post.by)?;
-        Ok(Call::Post(from, post))
+        let act = self.sending(alloc, from, &app)?;
+        app.by = self.hears_of(act, app.by)?;
+        Ok(Call::AppMessage(from, app))
     }
 
     /// The numbers of acts, each with the one that the case gives it: of what was heard, and of the next note.
@@ -163,7 +163,7 @@ impl Solo {
     pub(crate) fn tell(&mut self, alloc: Global, text: &str) -> Result<String, Fail> {
         let mut line = Line::new(alloc);
         if let Some(entry) = text.strip_prefix("board ") {
-            self.post_text(entry)?;
+            self.app_text(entry)?;
         } else if text == "worker" {
             line.worker(&self.node)?;
         } else {
@@ -175,7 +175,7 @@ impl Solo {
         line.into_text()
     }
 
-    fn post_text(&mut self, text: &str) -> Result<(), Fail> {
+    fn app_text(&mut self, text: &str) -> Result<(), Fail> {
         let (instance, word) = first_word(text)?;
         let verdict = match word {
             "open" => Verdict::Open,
@@ -183,7 +183,7 @@ impl Solo {
             "no" => Verdict::No,
             _ => return Err(Fail::from("another verdict")),
         };
-        Ok(self.post(number(instance)?, verdict)?)
+        Ok(self.app(number(instance)?, verdict)?)
     }
 
     /// Makes the call, and tells what comes of it, or why it is refused.

@@ -19,7 +19,7 @@ mod texts;
 
 use crate::fresh::Fresh;
 use crate::resuming::resumed_in_turn;
-use crate::runs::{replayed_in_turn, run_in_turn, threads_in_turn};
+use crate::runs::{gone_on_in_turn, replayed_in_turn, run_in_turn, threads_in_turn};
 use crate::scripts::scripts_in_turn;
 use crate::settling::settled_in_turn;
 use crate::stages::{Way, leads_to};
@@ -76,6 +76,7 @@ fn try_steps<W: Wait, S: CkptStore + Fresh + Drop>(
     reports_in_turn::<S>(rt, alloc, text, steps)?;
     stores_in_turn::<S>(rt, alloc, text, steps)?;
     settled_in_turn::<S>(rt, alloc, text, steps)?;
+    gone_on_in_turn::<S>(rt, alloc, text, steps)?;
     replayed_in_turn::<S>(rt, alloc, text)
 }
 

@@ -3,10 +3,13 @@
 use crate::fresh::{Fresh, sink};
 use crate::refusing::{MOST, Turns, never, refuse, was_spared};
 use crate::resuming::is_of_resuming;
-use crate::stepping::is_of_opening;
-use kt_core::StepError;
+use crate::stepping::{is_of_opening, played, scenario};
+use kt_core::{Step, StepError};
 use kt_run::{Output, RunTextFault, run_text};
-use kt_scene::{ReplayFault, Scenario, SceneError, Source, WorkKind, read_scene, replay};
+use kt_scene::{
+    ReplayFault, Scenario, SceneError, Source, Work, WorkKind, read_scene, replay, resume_replay,
+    write_scene,
+};
 use kt_stage::{OpenGate, RunFault, run_threads};
 use kt_store::{CkptStore, StoreError};
 use std::alloc::Global;
@@ -51,44 +54,102 @@ fn is_of_run(fault: RunFault) -> bool {
 /// What a replay or a run came to, whether no growth of it was refused, and what was written.
 type Ended<F> = (Result<(), F>, bool, Vec<u8>);
 
-/// Replays the text over a fresh store, with the growth of this number refused.
-fn replayed_once<S: CkptStore + Fresh + Drop>(
-    alloc: Global,
-    text: &[u8],
-    number: usize,
-) -> Result<Ended<ReplayFault>, Fail> {
-    let mut source = Source::new(text);
-    let mut sink = sink(alloc)?;
-    let store = S::fresh(alloc)?;
-    refuse(alloc, number)?;
-    let answer = replay(alloc, &mut source, &mut sink, store);
-    let is_spared = was_spared(alloc, number)?;
-    Ok((answer, is_spared, sink.into_inner()))
+/// A replay of a text: over a fresh store, or over what these steps of a scenario left, from which it goes on.
+#[derive(Clone, Copy, Debug)]
+enum Replay<'a> {
+    Opens { text: &'a [u8] },
+    GoesOn {
+        text: &'a [u8],
+        from: &'a [u8],
+        steps: &'a [Step],
+    },
 }
 
-/// Replays the text, each time with another reader, writer and store. Refused, it leaves nothing written.
+impl Replay<'_> {
+    fn name(self) -> &'static str {
+        match self {
+            Replay::Opens { .. } => "replay",
+            Replay::GoesOn { .. } => "resume_replay",
+        }
+    }
+
+    /// Replays with the growth of this number refused.
+    fn once<S: CkptStore + Fresh + Drop>(
+        self,
+        alloc: Global,
+        number: usize,
+    ) -> Result<Ended<ReplayFault>, Fail> {
+        let mut sink = sink(alloc)?;
+        let answer = match self {
+            Replay::Opens { text } => {
+                let store = S::fresh(alloc)?;
+                let mut source = Source::new(text);
+                refuse(alloc, number)?;
+                replay(alloc, &mut source, &mut sink, store)
+            }
+            Replay::GoesOn { text, from, steps } => {
+                let store = played::<S>(alloc, from, steps)?.into_store();
+                let mut source = Source::new(text);
+                refuse(alloc, number)?;
+                resume_replay(alloc, &mut source, &mut sink, store)
+            }
+        };
+        let is_spared = was_spared(alloc, number)?;
+        Ok((answer, is_spared, sink.into_inner()))
+    }
+
+    /// Replays with each growth refused in turn, each time with another reader, writer and store. Refused, it leaves
+    /// nothing written.
+    fn in_turn<S: CkptStore + Fresh + Drop>(
+        self,
+        rt: &HostRuntime,
+        alloc: Global,
+    ) -> Result<(), Fail> {
+        let (_, _, expected) = self.once::<S>(alloc, 0)?;
+        let mut turns = Turns::new(self.name());
+        turns.hold(rt, !expected.is_empty(), "nothing written")?;
+        for number in 1..MOST {
+            let (answer, is_spared, written) = self.once::<S>(alloc, number)?;
+            let is_right = match answer {
+                Ok(()) => written == expected,
+                Err(fault) => is_of_replay(fault) && written.is_empty(),
+            };
+            turns.hold(rt, is_right, "another end")?;
+            if is_spared {
+                return turns.end(rt, number);
+            }
+            if answer.is_ok() {
+                turns.bear();
+            }
+        }
+        Err(never())
+    }
+}
+
+/// Replays the text over fresh stores.
 pub(crate) fn replayed_in_turn<S: CkptStore + Fresh + Drop>(
     rt: &HostRuntime,
     alloc: Global,
     text: &[u8],
 ) -> Result<(), Fail> {
-    let (_, _, expected) = replayed_once::<S>(alloc, text, 0)?;
-    let mut turns = Turns::new("replay");
-    for number in 1..MOST {
-        let (answer, is_spared, written) = replayed_once::<S>(alloc, text, number)?;
-        let is_right = match answer {
-            Ok(()) => written == expected,
-            Err(fault) => is_of_replay(fault) && written.is_empty(),
-        };
-        turns.hold(rt, is_right, "another end")?;
-        if is_spared {
-            return turns.end(rt, number);
-        }
-        if answer.is_ok() {
-            turns.bear();
-        }
-    }
-    Err(never())
+    Replay::Opens { text }.in_turn::<S>(rt, alloc)
+}
+
+/// Goes on from what the steps of the text left, with no step more.
+pub(crate) fn gone_on_in_turn<S: CkptStore + Fresh + Drop>(
+    rt: &HostRuntime,
+    alloc: Global,
+    text: &[u8],
+    steps: &[Step],
+) -> Result<(), Fail> {
+    let Scenario { scene, .. } = scenario(alloc, text)?;
+    let rest = write_scene(alloc, &scene, &Work::Steps(Vec::new(alloc)))?;
+    let replay = Replay::GoesOn {
+        text: &rest,
+        from: text,
+        steps,
+    };
+    replay.in_turn::<S>(rt, alloc)
 }
 
 /// Runs the text by threads over a fresh store, with the growth of this number refused.
@@ -138,7 +199,7 @@ pub(crate) fn run_in_turn<T: Threads + Wait + Sync, S: CkptStore + Fresh + Send 
         let (answer, is_spared, written) = run_once::<T, S>(threads, alloc, text, number)?;
         let is_right = match answer {
             Ok(()) => {
-                let (replayed, _, _) = replayed_once::<S>(alloc, &written, 0)?;
+                let (replayed, _, _) = Replay::Opens { text: &written }.once::<S>(alloc, 0)?;
                 replayed == Ok(())
             }
             Err(RunTextFault::Text(fault)) => is_of_replay(fault) && written.is_empty(),

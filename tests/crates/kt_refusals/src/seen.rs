@@ -31,8 +31,8 @@ fn add_node<S: CkptStore>(
     let worker = world.worker(node);
     add(text, &format!(in alloc; "{worker:?}\n")?)?;
     if let Some(shard) = world.shard(node) {
-        let (tuples, desks) = (shard.bag().to_vec(alloc)?, shard.desks());
-        add(text, &format!(in alloc; "{tuples:?} {desks:?}\n")?)?;
+        let (tuples, sessions) = (shard.bag().to_vec(alloc)?, shard.sessions());
+        add(text, &format!(in alloc; "{tuples:?} {sessions:?}\n")?)?;
     }
     Ok(())
 }

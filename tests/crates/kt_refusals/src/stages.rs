@@ -207,7 +207,7 @@ fn staged<W: Wait, S: CkptStore + Drop, L: Naming>(
 ) -> Result<Table<S, L>, Fail>
     requires name { blank.name ≡ L.name }
     requires parts { blank.parts ≡ L.parts }
-    requires one_each { blank.parts ≡ length (nodes_of world.state.cast) }
+    requires one_each { blank.parts ≡ length (nodes_of world.state.scene) }
     requires opening { L.opening ≡ world }
 {
     let counts = Counts::of_world(&world);
@@ -263,7 +263,7 @@ fn on_stage<W: Wait, S: CkptStore + Drop, L: Naming>(
 ) -> Result<bool, Fail>
     requires name { blank.name ≡ L.name }
     requires parts { blank.parts ≡ L.parts }
-    requires one_each { blank.parts ≡ length (nodes_of world.state.cast) }
+    requires one_each { blank.parts ≡ length (nodes_of world.state.scene) }
     requires opening { L.opening ≡ world }
 {
     let mut table = staged::<W, S, L>(waits, alloc, world, blank, moment)?;

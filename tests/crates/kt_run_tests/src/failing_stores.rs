@@ -3,7 +3,7 @@
 
 use crate::runs::{ROWS, Row, replayed};
 use kt_core::{OpenError, Start, StepError};
-use kt_run::{Output, RunTextFault, run_text_over};
+use kt_run::{Output, RunTextFault, run_text_returning_store};
 use kt_scene::{ReplayFault, Sink, Source};
 use kt_stage::{OpenGate, RunFault};
 use kt_store::{CkptStore, FaultStore, MemStore, StoreError};
@@ -30,7 +30,7 @@ fn run<T: Threads + Wait + Sync, S: CkptStore + Send + Drop>(
     let (text, _, _) = *row;
     let (mut source, mut sink) = (Source::new(text), Sink::new(Vec::new(alloc)));
     let start = Start::Open;
-    let (answer, left) = run_text_over(
+    let (answer, left) = run_text_returning_store(
         rt, alloc, start, &mut source, &mut sink, store, output, &OpenGate,
     );
     (answer, sink.into_inner(), left)

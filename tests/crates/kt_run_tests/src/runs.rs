@@ -1,7 +1,7 @@
 //! Runs from bytes to bytes: what is written, and what a replay of the journal writes.
 
 use kt_core::{OpenError, Start};
-use kt_run::{Output, RunTextFault, run_text, run_text_over};
+use kt_run::{Output, RunTextFault, run_text, run_text_returning_store};
 use kt_scene::{ReplayFault, Sink, Source, replay};
 use kt_stage::{OpenGate, RunFault};
 use kt_store::{CkptStore, MemStore};
@@ -107,7 +107,7 @@ fn the_store_is_given_back(rt: HostRuntime) -> Result<(), Fail> {
     let text = b"linda-kt 1\nshards 1\nworker\nout (1)\nfaults\ncheck w1 after 0\nend\n".as_slice();
     let (mut source, mut sink) = (Source::new(text), Sink::new(Vec::new(alloc)));
     let store = MemStore::new(alloc);
-    let (answer, left) = run_text_over(
+    let (answer, left) = run_text_returning_store(
         &rt,
         alloc,
         Start::Open,
@@ -121,7 +121,7 @@ fn the_store_is_given_back(rt: HostRuntime) -> Result<(), Fail> {
     let mut left = left;
     assert!(rt; left.initiator(1) == Ok(Some(NodeId::Worker(1))));
     let (mut source, mut sink) = (Source::new(text), Sink::new(Vec::new(alloc)));
-    let (answer, left) = run_text_over(
+    let (answer, left) = run_text_returning_store(
         &rt,
         alloc,
         Start::Open,

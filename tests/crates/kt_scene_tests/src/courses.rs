@@ -53,8 +53,8 @@ fn node_shown<S: CkptStore>(alloc: Global, world: &World<S>, node: NodeId) -> Re
         text.push_str(format!(in alloc; "{message:?}\n")?.as_str())?;
     }
     if let Some(shard) = world.shard(node) {
-        let (tuples, desks) = (shard.bag().to_vec(alloc)?, shard.desks());
-        text.push_str(format!(in alloc; "{tuples:?} {desks:?}\n")?.as_str())?;
+        let (tuples, sessions) = (shard.bag().to_vec(alloc)?, shard.sessions());
+        text.push_str(format!(in alloc; "{tuples:?} {sessions:?}\n")?.as_str())?;
     }
     for to in NODES {
         for place in 0..world.link_len(node, to) {

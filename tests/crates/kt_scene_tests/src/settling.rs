@@ -165,8 +165,8 @@ impl Beside {
     /// Goes on until it has made so many steps.
     fn go_to(&mut self, alloc: Global, made: u64) -> Result<(), Fail> {
         for _ in self.made..made {
-            let cast = CHECKPOINT_OF_TWO.cast;
-            let next = next_of(alloc, &mut self.world, cast, &self.faults)?;
+            let size = CHECKPOINT_OF_TWO.size;
+            let next = next_of(alloc, &mut self.world, size, &self.faults)?;
             let step = next.ok_or("a step")?;
             let answer = self.world.step(alloc, step);
             answer.ok().ok_or("a step that is made")?;

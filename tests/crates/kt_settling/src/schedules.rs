@@ -4,7 +4,7 @@ use crate::settled::settles;
 use kt_core::Step;
 use kt_node::Mode;
 use kt_tuple::NodeId;
-use kt_walk::cast::Cast;
+use kt_walk::scene_size::SceneSize;
 use kt_walk::draws::Draws;
 use kt_walk::finding::{Finding, holds};
 use kt_walk::scenes::short_scene_of;
@@ -81,13 +81,13 @@ fn add_steps_of_worker(steps: &mut Vec<Step>, worker: u8, shards: u8) -> Result<
 }
 
 /// All steps of all nodes.
-fn all_steps(alloc: Global, cast: Cast) -> Result<Vec<Step>, Finding> {
+fn all_steps(alloc: Global, size: SceneSize) -> Result<Vec<Step>, Finding> {
     let mut steps = Vec::new(alloc);
-    for worker in 1..=cast.workers {
-        add_steps_of_worker(&mut steps, worker, cast.shards)?;
+    for worker in 1..=size.workers {
+        add_steps_of_worker(&mut steps, worker, size.shards)?;
     }
-    for place in 0..cast.count() {
-        let node = cast.node(place);
+    for place in 0..size.count() {
+        let node = size.node(place);
         steps.push(Step::Take { node })?;
         steps.push(Step::Check { node })?;
         steps.push(Step::Decide { node })?;
@@ -109,8 +109,8 @@ fn put_last(steps: &mut Vec<Step>, place: usize) -> Result<(), Finding> {
 }
 
 /// The steps in an order that is drawn.
-fn shuffled(alloc: Global, cast: Cast, draws: &mut Draws) -> Result<Vec<Step>, Finding> {
-    let mut steps = all_steps(alloc, cast)?;
+fn shuffled(alloc: Global, size: SceneSize, draws: &mut Draws) -> Result<Vec<Step>, Finding> {
+    let mut steps = all_steps(alloc, size)?;
     let count = steps.len() as u64;
     for _ in 0..count.saturating_mul(2) {
         let place = draws.below(count.max(1)) as usize;
@@ -120,10 +120,10 @@ fn shuffled(alloc: Global, cast: Cast, draws: &mut Draws) -> Result<Vec<Step>, F
 }
 
 /// The links of all pairs, on which nothing is.
-fn all_links(alloc: Global, cast: Cast) -> Result<Vec<Sent>, Finding> {
+fn all_links(alloc: Global, size: SceneSize) -> Result<Vec<Sent>, Finding> {
     let mut links = Vec::new(alloc);
-    for worker in 1..=cast.workers {
-        for shard in 1..=cast.shards {
+    for worker in 1..=size.workers {
+        for shard in 1..=size.shards {
             let (worker, shard) = (NodeId::Worker(worker), NodeId::Shard(shard));
             for (from, to) in [(worker, shard), (shard, worker)] {
                 let turns = Vec::new(alloc);
@@ -153,11 +153,11 @@ impl Chooser {
     fn open(alloc: Global, schedule: Schedule, seed: u64) -> Result<Chooser, Finding> {
         let watched = Watched::open(alloc, short_scene_of(alloc, COMMANDS, seed)?)?;
         let mut draws = Draws::of(seed ^ 0x5bd1_e995);
-        let cast = watched.cast();
+        let size = watched.size();
         Ok(Chooser {
             schedule,
-            steps: shuffled(alloc, cast, &mut draws)?,
-            links: all_links(alloc, cast)?,
+            steps: shuffled(alloc, size, &mut draws)?,
+            links: all_links(alloc, size)?,
             turns: 0,
             failures: draws.below(MOST_FAILURES + 1),
             pause: 0,
@@ -203,11 +203,11 @@ impl Chooser {
             self.pause = self.pause.saturating_sub(1);
             return None;
         }
-        let cast = self.watched.cast();
-        let count = cast.count().max(1);
+        let size = self.watched.size();
+        let count = size.count().max(1);
         let first = self.draws.number_to(count);
         for turn in 0..count {
-            let node = cast.node(first.saturating_add(turn) % count);
+            let node = size.node(first.saturating_add(turn) % count);
             if self.watched.world().mode(node) != Some(Mode::Down) {
                 self.failures = self.failures.saturating_sub(1);
                 self.pause = self.draws.below(12);

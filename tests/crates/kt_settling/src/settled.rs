@@ -4,7 +4,7 @@ use kt_core::{Faults, Scene, Step, World};
 use kt_stage::{next_for, settle};
 use kt_store::MemStore;
 use kt_tuple::ALL_NODES;
-use kt_walk::cast::Cast;
+use kt_walk::scene_size::SceneSize;
 use kt_walk::copies::copy_of;
 use kt_walk::finding::{Finding, holds};
 use kt_walk::scenes::Game;
@@ -19,11 +19,11 @@ const MOST_STEPS: u64 = 500;
 pub fn next_of(
     alloc: Global,
     world: &mut Game,
-    cast: Cast,
+    size: SceneSize,
     faults: &Faults,
 ) -> Result<Option<Step>, Finding> {
-    for place in 0..cast.count() {
-        if let Some(step) = next_for(alloc, world, faults, cast.node(place))? {
+    for place in 0..size.count() {
+        if let Some(step) = next_for(alloc, world, faults, size.node(place))? {
             return Ok(Some(step));
         }
     }
@@ -37,9 +37,9 @@ fn go_on(
     most: u64,
     tally: &mut Tally,
 ) -> Result<bool, Finding> {
-    let (cast, faults) = (watched.cast(), Faults::new(alloc));
+    let (size, faults) = (watched.size(), Faults::new(alloc));
     for _ in 0..most {
-        let Some(step) = next_of(alloc, watched.world_mut(), cast, &faults)? else {
+        let Some(step) = next_of(alloc, watched.world_mut(), size, &faults)? else {
             return Ok(true);
         };
         holds(watched.go(alloc, step, tally)?, "a next step is enabled")?;
@@ -58,15 +58,15 @@ fn is_over(alloc: Global, world: &mut Game) -> Result<(), Finding> {
 }
 
 /// Whether the two are alike, so far as they show it.
-fn are_alike(alloc: Global, a: &mut Game, b: &mut Game, cast: Cast) -> Result<bool, Finding> {
+fn are_alike(alloc: Global, a: &mut Game, b: &mut Game, size: SceneSize) -> Result<bool, Finding> {
     let mut are_alike = a.made() == b.made() && a.history().notes() == b.history().notes();
-    for place in 0..cast.count() {
-        let node = cast.node(place);
+    for place in 0..size.count() {
+        let node = size.node(place);
         are_alike = are_alike && a.mode(node) == b.mode(node);
         are_alike = are_alike && a.steps_of(node) == b.steps_of(node);
         are_alike = are_alike && a.kept_len(node) == b.kept_len(node);
-        for other in 0..cast.count() {
-            let other = cast.node(other);
+        for other in 0..size.count() {
+            let other = size.node(other);
             are_alike = are_alike && a.link_len(node, other) == b.link_len(node, other);
         }
     }
@@ -93,8 +93,8 @@ fn is_what_settle_makes(alloc: Global, watched: &mut Watched, count: usize) -> R
     };
     let settled = settle(alloc, &mut other, &mut Faults::new(alloc));
     holds(settled.is_ok(), "it settles")?;
-    let cast = watched.cast();
-    let are_alike = are_alike(alloc, &mut other, watched.world_mut(), cast)?;
+    let size = watched.size();
+    let are_alike = are_alike(alloc, &mut other, watched.world_mut(), size)?;
     holds(are_alike, "what `settle` makes of it")
 }
 

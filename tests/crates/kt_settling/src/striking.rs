@@ -4,7 +4,7 @@ use crate::settled::{next_of, settles};
 use kt_core::{Faults, Step};
 use kt_node::Mode;
 use kt_tuple::NodeId;
-use kt_walk::cast::Cast;
+use kt_walk::scene_size::SceneSize;
 use kt_walk::finding::{Finding, holds};
 use kt_walk::tally::Tally;
 use kt_walk::watching::Watched;
@@ -23,15 +23,15 @@ enum Strike {
 }
 
 /// How many strikes there are.
-fn strikes(cast: Cast) -> u8 {
-    cast.count().saturating_add(2)
+fn strikes(size: SceneSize) -> u8 {
+    size.count().saturating_add(2)
 }
 
 /// The strike of this number: the nodes come first.
-fn strike_of(cast: Cast, number: u8) -> Strike {
-    if number < cast.count() {
-        Strike::One(cast.node(number))
-    } else if number == cast.count() {
+fn strike_of(size: SceneSize, number: u8) -> Strike {
+    if number < size.count() {
+        Strike::One(size.node(number))
+    } else if number == size.count() {
         Strike::Workers
     } else {
         Strike::All
@@ -51,8 +51,8 @@ impl Strike {
 /// The failures of those of the strike that are not down.
 fn failures(alloc: Global, watched: &Watched, strike: Strike) -> Result<Vec<Step>, Finding> {
     let mut steps = Vec::new(alloc);
-    for place in 0..watched.cast().count() {
-        let node = watched.cast().node(place);
+    for place in 0..watched.size().count() {
+        let node = watched.size().node(place);
         if strike.is_of(node) && watched.world().mode(node) != Some(Mode::Down) {
             steps.push(Step::Fail { node })?;
         }
@@ -95,8 +95,8 @@ pub fn struck_after(
     count: usize,
     tally: &mut Tally,
 ) -> Result<(), Finding> {
-    for number in 0..strikes(scenario.cast) {
-        let strike = strike_of(scenario.cast, number);
+    for number in 0..strikes(scenario.size) {
+        let strike = strike_of(scenario.size, number);
         let mut watched = after(alloc, scenario, count)?;
         settles_after(alloc, &mut watched, strike, tally)?;
     }
@@ -110,12 +110,12 @@ fn struck_again(
     (first, between, second): (Strike, usize, Strike),
     tally: &mut Tally,
 ) -> Result<bool, Finding> {
-    let (cast, faults) = (watched.cast(), Faults::new(alloc));
+    let (size, faults) = (watched.size(), Faults::new(alloc));
     for step in &failures(alloc, watched, first)? {
         watched.make(alloc, *step)?;
     }
     for _ in 0..between {
-        let Some(step) = next_of(alloc, watched.world_mut(), cast, &faults)? else {
+        let Some(step) = next_of(alloc, watched.world_mut(), size, &faults)? else {
             return Ok(false);
         };
         watched.make(alloc, step)?;
@@ -133,14 +133,14 @@ pub fn struck_twice_after(
     stride: usize,
     tally: &mut Tally,
 ) -> Result<(), Finding> {
-    let all = strikes(scenario.cast);
+    let all = strikes(scenario.size);
     for number in 0..all {
-        let first = strike_of(scenario.cast, number);
+        let first = strike_of(scenario.size, number);
         for turn in 0..MOST_BETWEEN {
             let between = turn.saturating_mul(stride);
             let mut is_there = false;
             for other in 0..all {
-                let second = strike_of(scenario.cast, other);
+                let second = strike_of(scenario.size, other);
                 let mut watched = after(alloc, scenario, count)?;
                 is_there = struck_again(alloc, &mut watched, (first, between, second), tally)?;
             }

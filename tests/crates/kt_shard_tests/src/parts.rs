@@ -1,23 +1,23 @@
 //! A shard made of what is read of one.
 
-use kt_shard::{Desk, Kept, Request, Shard};
+use kt_shard::{Session, CachedReply, Request, Shard};
 use kt_tuple::{MAX_WORKERS, Op, Tuple};
 use std::alloc::{AllocError, Global};
 use std::process::Abort;
 use std::test::Fail;
 
-fn copies(alloc: Global, desks: &[Desk]) -> Result<Vec<Desk>, AllocError> {
-    let mut copies = Vec::with_capacity(alloc, desks.len())?;
-    for desk in desks {
-        copies.push(desk.copy(alloc)?)?;
+fn copies(alloc: Global, sessions: &[Session]) -> Result<Vec<Session>, AllocError> {
+    let mut copies = Vec::with_capacity(alloc, sessions.len())?;
+    for session in sessions {
+        copies.push(session.copy(alloc)?)?;
     }
     Ok(copies)
 }
 
 /// The shard made of what is read of this one.
 fn made_again(alloc: Global, shard: &Shard) -> Result<Shard, AllocError> {
-    let desks = copies(alloc, shard.desks())?;
-    Ok(Shard::from_parts(shard.bag().copy(alloc)?, desks))
+    let sessions = copies(alloc, shard.sessions())?;
+    Ok(Shard::from_parts(shard.bag().copy(alloc)?, sessions))
 }
 
 /// The worker asks for this, and is served where it is said.
@@ -58,7 +58,7 @@ fn waits_alike(one: Option<&Request>, other: Option<&Request>) -> bool {
     }
 }
 
-fn is_kept_alike(one: Option<&Kept>, other: Option<&Kept>) -> bool {
+fn is_kept_alike(one: Option<&CachedReply>, other: Option<&CachedReply>) -> bool {
     match (one, other) {
         (Some(one), Some(other)) => {
             is_request(&one.request, &other.request) && one.answer == other.answer
@@ -92,9 +92,9 @@ fn is_made_again_of_its_parts(rt: HostRuntime) -> Result<(), Fail> {
         made.bag().to_vec(rt.alloc())?,
         shard.bag().to_vec(rt.alloc())?
     );
-    for (worker, waits, is_kept) in [(1, true, true), (3, true, false), (16, false, true)] {
+    for (worker, waits, is_cached) in [(1, true, true), (3, true, false), (16, false, true)] {
         assert_eq!(rt; made.waiting(worker).is_some(), waits, "{worker}");
-        assert_eq!(rt; made.kept(worker).is_some(), is_kept, "{worker}");
+        assert_eq!(rt; made.kept(worker).is_some(), is_cached, "{worker}");
     }
     Ok(())
 }

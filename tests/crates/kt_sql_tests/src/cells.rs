@@ -277,8 +277,8 @@ pub(crate) fn answers<S: CkptStore>(alloc: Global, store: &mut S) -> Result<Vec<
         push(alloc, &mut answers, &store.incarnation(node))?;
         push(alloc, &mut answers, &store.permanent(alloc, node))?;
         push(alloc, &mut answers, &store.tentative(alloc, node))?;
-        push(alloc, &mut answers, &store.permanent_marks(alloc, node))?;
-        push(alloc, &mut answers, &store.tentative_marks(alloc, node))?;
+        push(alloc, &mut answers, &store.permanent_header(alloc, node))?;
+        push(alloc, &mut answers, &store.tentative_header(alloc, node))?;
         push(alloc, &mut answers, &store.open_of(node))?;
     }
     for instance in 1..=3 {

@@ -108,8 +108,8 @@ fn from_image(alloc: Global, scenario: &Scenario, image: &Image) -> Result<Vec<u
     }
 }
 
-/// One file fails from each call on in turn, until none does. What goes on then is what goes on before the stopped step,
-/// or after it.
+/// One file fails from each call on in turn, until none does. What goes on then is what goes on before the stopped
+/// step, or after it.
 fn at_each_call(
     rt: &impl Abort,
     alloc: Global,

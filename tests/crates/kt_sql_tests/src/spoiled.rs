@@ -1,9 +1,9 @@
 //! A store in SQL of which cells are damaged while a world stands on it.
 
 use crate::cells::Store;
-use kt_ckpt::{Ckpt, Marks};
+use kt_ckpt::{Ckpt, CkptHeader};
 use kt_sql::SqlStore;
-use kt_store::{CkptStore, StoreError, Tentative, TentativeMarks, Verdict};
+use kt_store::{CkptStore, StoreError, Tentative, TentativeHeader, Verdict};
 use kt_tuple::NodeId;
 use std::alloc::Global;
 use std::mem;
@@ -90,20 +90,20 @@ impl<S: CkptStore + Alter> CkptStore for Spoiled<S> {
         self.next()?.tentative(alloc, node)
     }
 
-    fn permanent_marks(
+    fn permanent_header(
         &mut self,
         alloc: Global,
         node: NodeId,
-    ) -> Result<Option<Marks>, StoreError> {
-        self.next()?.permanent_marks(alloc, node)
+    ) -> Result<Option<CkptHeader>, StoreError> {
+        self.next()?.permanent_header(alloc, node)
     }
 
-    fn tentative_marks(
+    fn tentative_header(
         &mut self,
         alloc: Global,
         node: NodeId,
-    ) -> Result<Option<TentativeMarks>, StoreError> {
-        self.next()?.tentative_marks(alloc, node)
+    ) -> Result<Option<TentativeHeader>, StoreError> {
+        self.next()?.tentative_header(alloc, node)
     }
 
     fn verdict(&mut self, instance: u64) -> Result<Option<Verdict>, StoreError> {

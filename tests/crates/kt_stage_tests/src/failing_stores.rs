@@ -3,7 +3,7 @@
 use crate::making::{faults, journal_of, make_all, opened, replayed, report, scene};
 use crate::runs::THREADS_AND_A_FAULT;
 use kt_core::{OpenError, Start, StepError};
-use kt_stage::{Journal, Left, OpenGate, RunFault, run_threads, run_threads_over};
+use kt_stage::{Journal, Left, OpenGate, RunFault, run_threads, run_threads_returning_left};
 use kt_store::{CkptStore, FaultStore, MemStore, StoreError};
 use std::alloc::Global;
 use std::process::Abort;
@@ -25,10 +25,10 @@ fn failing(alloc: Global, at: u64) -> Failing {
 
 /// Runs the scene over a store of which the call of this number fails.
 fn run<R: Threads + Wait + Sync>(rt: &R, alloc: Global, at: u64) -> Result<Run, Fail> {
-    let (cast, lines, _) = THREADS_AND_A_FAULT;
-    let (scene, faults) = (scene(alloc, cast)?, faults(alloc, lines)?);
+    let (scene_row, lines, _) = THREADS_AND_A_FAULT;
+    let (scene, faults) = (scene(alloc, scene_row)?, faults(alloc, lines)?);
     let store = failing(alloc, at);
-    Ok(run_threads_over(rt, alloc, Start::Open, scene, faults, store, &OpenGate))
+    Ok(run_threads_returning_left(rt, alloc, Start::Open, scene, faults, store, &OpenGate))
 }
 
 /// The world of the journal is that of its steps: it reports what their replay does.
@@ -81,8 +81,8 @@ fn has_ended(
 
 /// The steps of a run of which no call failed lead to the report of one over a store that never fails.
 fn has_run(rt: &impl Abort, alloc: Global, journal: Journal<Failing>) -> Result<(), Fail> {
-    let (cast, _, expected) = THREADS_AND_A_FAULT;
-    let mut world = opened(alloc, scene(alloc, cast)?)?;
+    let (scene_row, _, expected) = THREADS_AND_A_FAULT;
+    let mut world = opened(alloc, scene(alloc, scene_row)?)?;
     make_all(alloc, &mut world, journal.steps())?;
     let report = report(alloc, &mut world)?;
     assert!(rt; report.starts_with(expected), "{report:?}");
@@ -123,9 +123,9 @@ fn each_call_fails_in_turn(rt: HostRuntime) -> Result<(), Fail> {
 #[test]
 fn nothing_is_given_back(rt: HostRuntime) -> Result<(), Fail> {
     let alloc = rt.alloc();
-    let (cast, lines, _) = THREADS_AND_A_FAULT;
+    let (scene_row, lines, _) = THREADS_AND_A_FAULT;
     for at in 1..=10 {
-        let (scene, faults) = (scene(alloc, cast)?, faults(alloc, lines)?);
+        let (scene, faults) = (scene(alloc, scene_row)?, faults(alloc, lines)?);
         let run = run_threads(&rt, alloc, scene, faults, failing(alloc, at), &OpenGate);
         let is_told = match run.err() {
             Some(RunFault::Open(cause)) => {

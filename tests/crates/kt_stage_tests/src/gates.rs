@@ -1,6 +1,6 @@
 //! A run whose gate holds a shard back: the other goes on meanwhile.
 
-use crate::making::{Cast, report, scene};
+use crate::making::{SceneRow, report, scene};
 use kt_core::Faults;
 use kt_stage::{Gate, run_threads};
 use kt_store::MemStore;
@@ -14,7 +14,7 @@ use std::time::{Clock, Duration};
 const MOST_TURNS: u32 = 10_000;
 
 /// Two shards serve, each a worker of its own.
-const TWO_SHARDS: Cast = (2, &[&["out (\"k\")"], &["out (\"k\", 7)"]]);
+const TWO_SHARDS: SceneRow = (2, &[&["out (\"k\")"], &["out (\"k\", 7)"]]);
 
 /// Holds the shard that comes first before its confirm until that of the other has ended.
 #[derive(Drop)]

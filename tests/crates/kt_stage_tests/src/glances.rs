@@ -1,6 +1,6 @@
 //! Looking at a shard, and proposing whom it serves.
 
-use crate::making::{Cast, SHARD_1, WORKER_1, opened, scene};
+use crate::making::{SceneRow, SHARD_1, WORKER_1, opened, scene};
 use kt_core::Step;
 use kt_stage::{
     ActError, ConfirmError, Glance, GlanceError, Naming, Receipt, Seat, Stage, node_count, propose,
@@ -15,7 +15,7 @@ use std::sync::Wait;
 use std::sync::ledger::Blank;
 use std::test::Fail;
 
-const PUTS_AND_TAKES: Cast = (1, &[&["out (\"a\", 1)", "in (\"a\", ?int)"]]);
+const PUTS_AND_TAKES: SceneRow = (1, &[&["out (\"a\", 1)", "in (\"a\", ?int)"]]);
 
 const ISSUE: Step = Step::Issue { node: WORKER_1 };
 

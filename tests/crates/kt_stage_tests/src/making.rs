@@ -18,7 +18,7 @@ pub(crate) const WORKER_2: NodeId = NodeId::Worker(2);
 pub(crate) const SHARD_1: NodeId = NodeId::Shard(1);
 
 /// How many shards there are, and the commands of each worker.
-pub(crate) type Cast = (u8, &'static [&'static [&'static str]]);
+pub(crate) type SceneRow = (u8, &'static [&'static [&'static str]]);
 
 /// A line: a kind, a node, and so many steps of its own.
 pub(crate) type Line = (FaultKind, NodeId, u64);
@@ -67,7 +67,7 @@ fn script(alloc: Global, texts: &[&str]) -> Result<Script, Fail> {
     Ok(script)
 }
 
-pub(crate) fn scene(alloc: Global, (shards, workers): Cast) -> Result<Scene, Fail> {
+pub(crate) fn scene(alloc: Global, (shards, workers): SceneRow) -> Result<Scene, Fail> {
     let mut scripts = Vec::new(alloc);
     for texts in workers {
         scripts.push(script(alloc, texts)?)?;

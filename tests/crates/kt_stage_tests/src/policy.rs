@@ -1,6 +1,6 @@
 //! What each rule of the policy gives, worked out by hand.
 
-use crate::making::{Cast, Line, SHARD_1, WORKER_1, WORKER_2, faults, make_lines, opened, scene};
+use crate::making::{SceneRow, Line, SHARD_1, WORKER_1, WORKER_2, faults, make_lines, opened, scene};
 use kt_core::FaultKind::{Check, Fail as Failure};
 use kt_stage::next_for;
 use kt_tuple::NodeId;
@@ -18,9 +18,9 @@ struct Row {
     next: &'static [(NodeId, &'static str)],
 }
 
-const ONE_PUTS: Cast = (1, &[&["out (\"a\", 1)"]]);
+const ONE_PUTS: SceneRow = (1, &[&["out (\"a\", 1)"]]);
 
-const TAKER_AND_PUTTER: Cast = (1, &[&["in (\"t\")"], &["out (\"t\")"]]);
+const TAKER_AND_PUTTER: SceneRow = (1, &[&["in (\"t\")"], &["out (\"t\")"]]);
 
 /// What is asked, waits, is served and is heard.
 const REQUESTS: [Row; 5] = [
@@ -195,9 +195,9 @@ const TWO: [Row; 3] = [
     },
 ];
 
-fn gives(rt: &impl Abort, alloc: Global, cast: Cast, rows: &[Row]) -> Result<(), Fail> {
+fn gives(rt: &impl Abort, alloc: Global, scene_row: SceneRow, rows: &[Row]) -> Result<(), Fail> {
     for row in rows {
-        let mut world = opened(alloc, scene(alloc, cast)?)?;
+        let mut world = opened(alloc, scene(alloc, scene_row)?)?;
         make_lines(alloc, &mut world, row.steps)?;
         let faults = faults(alloc, row.lines)?;
         for (node, line) in row.next {

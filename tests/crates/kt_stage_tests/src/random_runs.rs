@@ -3,7 +3,7 @@
 use crate::runs::{Outcome, run_and_replay};
 use kt_core::{Fault, FaultKind, Faults, Step};
 use kt_walk::draws::Draws;
-use kt_walk::scenes::{cast_up_to, scene_up_to};
+use kt_walk::scenes::{size_up_to, scene_up_to};
 use std::alloc::Global;
 use std::test::Fail;
 
@@ -17,11 +17,11 @@ const LINES: u64 = 6;
 
 /// Random fault lines of the nodes of the scene of this seed.
 fn random_faults(alloc: Global, seed: u64) -> Result<Faults, Fail> {
-    let cast = cast_up_to(MOST, seed);
+    let scene_row = size_up_to(MOST, seed);
     let mut draws = Draws::of(seed ^ 0x2545_f491);
     let mut faults = Faults::new(alloc);
     for _ in 0..draws.below(LINES + 1) {
-        let place = draws.number_to(cast.count()) - 1;
+        let place = draws.number_to(scene_row.count()) - 1;
         let kind = if draws.below(2) == 0 {
             FaultKind::Fail
         } else {
@@ -29,7 +29,7 @@ fn random_faults(alloc: Global, seed: u64) -> Result<Faults, Fail> {
         };
         faults.push(Fault {
             kind,
-            node: cast.node(place),
+            node: scene_row.node(place),
             after: draws.below(30),
         })?;
     }

@@ -1,10 +1,10 @@
 //! Runs by threads.
 
 use crate::making::{
-    Cast, Line, SHARD_1, WORKER_1, faults, journal_of, make_all, opened, replayed, report, scene,
+    SceneRow, Line, SHARD_1, WORKER_1, faults, journal_of, make_all, opened, replayed, report, scene,
 };
 use kt_core::{FaultKind, Faults, OpenError, Scene, Start, Step};
-use kt_stage::{Left, OpenGate, RunFault, run_threads, run_threads_over, unfinished};
+use kt_stage::{Left, OpenGate, RunFault, run_threads, run_threads_returning_left, unfinished};
 use kt_store::{CkptStore, MemStore};
 use std::alloc::Global;
 use std::process::Abort;
@@ -13,7 +13,7 @@ use std::test::Fail;
 use std::thread::Threads;
 
 /// Who takes part, fault lines, and what the report begins with however the threads run.
-pub(crate) type Row = (Cast, &'static [Line], &'static [u8]);
+pub(crate) type Row = (SceneRow, &'static [Line], &'static [u8]);
 
 pub(crate) const THREADS_AND_A_FAULT: Row = (
     (
@@ -84,10 +84,10 @@ pub(crate) fn run_and_replay<R: Threads + Wait + Sync + Abort>(
 fn run<R: Threads + Wait + Sync + Abort>(
     rt: &R,
     alloc: Global,
-    (cast, lines, expected): Row,
+    (scene_row, lines, expected): Row,
 ) -> Result<Vec<Step>, Fail> {
     let faults = faults(alloc, lines)?;
-    let Outcome { steps, report } = run_and_replay(rt, alloc, scene(alloc, cast)?, faults)?;
+    let Outcome { steps, report } = run_and_replay(rt, alloc, scene(alloc, scene_row)?, faults)?;
     assert!(rt;
         report.starts_with(expected),
         "{:?}",
@@ -130,12 +130,12 @@ fn checks_while_it_runs(rt: HostRuntime) -> Result<(), Fail> {
 #[test]
 fn a_store_that_was_used(rt: HostRuntime) -> Result<(), Fail> {
     let alloc = rt.alloc();
-    let (cast, _, _) = TWO_CHECKS;
-    let mut world = opened(alloc, scene(alloc, cast)?)?;
+    let (scene_row, _, _) = TWO_CHECKS;
+    let mut world = opened(alloc, scene(alloc, scene_row)?)?;
     make_all(alloc, &mut world, &[Step::Check { node: WORKER_1 }])?;
     let store = world.into_store();
     let faults = Faults::new(alloc);
-    let fault = run_threads(&rt, alloc, scene(alloc, cast)?, faults, store, &OpenGate).err();
+    let fault = run_threads(&rt, alloc, scene(alloc, scene_row)?, faults, store, &OpenGate).err();
     assert!(rt; fault == Some(RunFault::Open(OpenError::NotFresh)));
     Ok(())
 }
@@ -144,11 +144,11 @@ fn a_store_that_was_used(rt: HostRuntime) -> Result<(), Fail> {
 #[test]
 fn the_store_is_given_back(rt: HostRuntime) -> Result<(), Fail> {
     let alloc = rt.alloc();
-    let (cast, _, _) = TWO_CHECKS;
-    let mut world = opened(alloc, scene(alloc, cast)?)?;
+    let (scene_row, _, _) = TWO_CHECKS;
+    let mut world = opened(alloc, scene(alloc, scene_row)?)?;
     make_all(alloc, &mut world, &[Step::Check { node: WORKER_1 }])?;
-    let (scene, faults) = (scene(alloc, cast)?, Faults::new(alloc));
-    let run = run_threads_over(&rt, alloc, Start::Open, scene, faults, world.into_store(), &OpenGate);
+    let (scene, faults) = (scene(alloc, scene_row)?, Faults::new(alloc));
+    let run = run_threads_returning_left(&rt, alloc, Start::Open, scene, faults, world.into_store(), &OpenGate);
     let (fault, left) = run.err().ok_or("a fault")?;
     assert!(rt; fault == RunFault::Open(OpenError::NotFresh));
     assert!(rt; matches!(left, Left::Store(_)));

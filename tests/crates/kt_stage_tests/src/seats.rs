@@ -1,6 +1,6 @@
 //! Seats, and what a stage is closed with.
 
-use crate::making::{Cast, SHARD_1, WORKER_1, faults, opened, scene};
+use crate::making::{SceneRow, SHARD_1, WORKER_1, faults, opened, scene};
 use kt_core::{FaultKind, Step, StepError};
 use kt_stage::{
     ActError, CloseError, Journal, Naming, Receipt, Seat, Stage, node_count, unfinished,
@@ -14,7 +14,7 @@ use std::sync::Wait;
 use std::sync::ledger::Blank;
 use std::test::Fail;
 
-const PUTS_AND_TAKES: Cast = (1, &[&["out (\"a\", 1)", "in (\"a\", ?int)"]]);
+const PUTS_AND_TAKES: SceneRow = (1, &[&["out (\"a\", 1)", "in (\"a\", ?int)"]]);
 
 /// The worker asks; the shard does not ask for it, and the worker not twice.
 fn ask<R: Wait + Abort, L: Naming>(

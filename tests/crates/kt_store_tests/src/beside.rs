@@ -2,7 +2,7 @@
 
 use crate::calls;
 use crate::plain::{Plain, Row};
-use kt_ckpt::{Ckpt, Marks};
+use kt_ckpt::{Ckpt, CkptHeader};
 use kt_draws::Draws;
 use kt_link::Label;
 use kt_store::{CkptStore, StoreError};
@@ -53,7 +53,7 @@ const NODES: [NodeId; 6] = [
 pub(crate) const EMPTY: [u8; 54] = [
     0x4b, 0x54, 0x43, 0x50, 2, // magic, version
     2, 1, // the first shard
-    0, 0, 0, 0, 0, 0, 0, 0, // line length
+    0, 0, 0, 0, 0, 0, 0, 0, // log length
     1, // one neighbour
     0, 0, 0, 0, 0, 0, 0, 0, 0, 0, 0, 0, 0, 0, 0, 0, // sent
     0, 0, 0, 0, 0, 0, 0, 0, 0, 0, 0, 0, 0, 0, 0, 0, // received
@@ -83,7 +83,7 @@ fn checkpoint(alloc: Global, draws: &mut Draws) -> Result<Ckpt, Apart> {
     Ckpt::decode(alloc, &bytes).map_err(|_| Apart::Bytes)
 }
 
-/// The number by which the map knows such a checkpoint: of the count of the label sent last, and of the line's length.
+/// The number by which the map knows such a checkpoint: of the count of the label sent last, and of the log's length.
 pub(crate) fn number_of(line_len: u64, sent: &[Label]) -> u64 {
     match sent.first() {
         Some(label) => label.count.wrapping_mul(4).wrapping_add(line_len),
@@ -142,27 +142,27 @@ fn agrees_on_node<C: CkptStore>(
     )
 }
 
-/// Whether these are the marks of such a checkpoint, which the map knows by this number.
-fn is_marked(marks: &Marks, number: u64) -> bool {
-    marks.node() == NodeId::Shard(1)
-        && number_of(marks.line_len(), marks.sent()) == number
-        && marks.sent().len() == 1
-        && marks.received().len() == 1
+/// Whether this is the header of such a checkpoint, which the map knows by this number.
+fn is_marked(header: &CkptHeader, number: u64) -> bool {
+    header.node() == NodeId::Shard(1)
+        && number_of(header.line_len(), header.sent()) == number
+        && header.sent().len() == 1
+        && header.received().len() == 1
 }
 
 /// Whether the store reads of the node's checkpoints without their states what the map has.
-fn agrees_on_marks<C: CkptStore>(
+fn agrees_on_header<C: CkptStore>(
     alloc: Global,
     store: &mut C,
     row: &Row,
 ) -> Result<bool, StoreError> {
-    let permanent = match (store.permanent_marks(alloc, row.node)?, row.permanent) {
-        (Some(marks), Some(number)) => is_marked(&marks, number),
-        (marks, number) => marks.is_none() && number.is_none(),
+    let permanent = match (store.permanent_header(alloc, row.node)?, row.permanent) {
+        (Some(header), Some(number)) => is_marked(&header, number),
+        (header, number) => header.is_none() && number.is_none(),
     };
-    let tentative = match (store.tentative_marks(alloc, row.node)?, row.tentative) {
+    let tentative = match (store.tentative_header(alloc, row.node)?, row.tentative) {
         (Some(read), Some((instance, number))) => {
-            read.instance == instance && is_marked(&read.marks, number)
+            read.instance == instance && is_marked(&read.header, number)
         }
         (read, stored) => read.is_none() && stored.is_none(),
     };
@@ -175,10 +175,10 @@ fn agrees_on_instance<C: CkptStore>(
     plain: &Plain,
     instance: u64,
 ) -> Result<bool, StoreError> {
-    let posted = plain.posted(instance);
+    let instance_row = plain.instance_row(instance);
     Ok(
-        store.verdict(instance)? == posted.map(|p| p.1)
-            && store.initiator(instance)? == posted.map(|p| p.0),
+        store.verdict(instance)? == instance_row.map(|p| p.1)
+            && store.initiator(instance)? == instance_row.map(|p| p.0),
     )
 }
 
@@ -192,7 +192,7 @@ fn agrees<C: CkptStore>(
 ) -> Result<bool, StoreError> {
     for row in &plain.rows {
         let open = plain.open_of(row.node);
-        if !agrees_on_node(alloc, store, row, open)? || !agrees_on_marks(alloc, store, row)? {
+        if !agrees_on_node(alloc, store, row, open)? || !agrees_on_header(alloc, store, row)? {
             return Ok(false);
         }
     }

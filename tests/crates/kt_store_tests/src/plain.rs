@@ -1,4 +1,4 @@
-//! A plain slow map of what a store holds. Its checkpoints are the lengths of their lines.
+//! A plain slow map of what a store holds. Its checkpoints are the lengths of their logs.
 
 use kt_store::Verdict;
 use kt_tuple::NodeId;
@@ -47,7 +47,7 @@ impl Plain {
         Ok(())
     }
 
-    pub(crate) fn posted(&self, instance: u64) -> Option<(NodeId, Verdict)> {
+    pub(crate) fn instance_row(&self, instance: u64) -> Option<(NodeId, Verdict)> {
         if instance == 0 {
             return None;
         }
@@ -56,8 +56,8 @@ impl Plain {
 
     pub(crate) fn decide(&mut self, instance: u64, yes: bool) {
         let place = instance.wrapping_sub(1) as usize;
-        if let Some(posted) = self.board.get_mut(place) {
-            posted.1 = if yes { Verdict::Yes } else { Verdict::No };
+        if let Some(instance_row) = self.board.get_mut(place) {
+            instance_row.1 = if yes { Verdict::Yes } else { Verdict::No };
         }
     }
 

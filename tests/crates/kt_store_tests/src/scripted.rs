@@ -11,8 +11,8 @@ pub(crate) enum Call {
     Incarnation(NodeId),
     Permanent(NodeId),
     Tentative(NodeId),
-    PermanentMarks(NodeId),
-    TentativeMarks(NodeId),
+    PermanentHeader(NodeId),
+    TentativeHeader(NodeId),
     Verdict(u64),
     Initiator(u64),
     OpenOf(NodeId),
@@ -27,7 +27,7 @@ pub(crate) enum Call {
     Decide(u64, bool),
 }
 
-/// What a call answers. Of a checkpoint it has the length of its line, and of a tentative one its instance too.
+/// What a call answers. Of a checkpoint it has the length of its log, and of a tentative one its instance too.
 #[derive(Clone, Copy, Debug, PartialEq, Eq)]
 pub(crate) enum Said {
     Done,
@@ -51,14 +51,14 @@ pub(crate) const CALLS: [Call; 22] = [
     Call::Incarnation(WORKER),
     Call::BeginCheck(WORKER),
     Call::Tentative(WORKER),
-    Call::TentativeMarks(WORKER),
+    Call::TentativeHeader(WORKER),
     Call::OpenOf(WORKER),
     Call::PutTentative(SHARD, 1),
     Call::Decide(1, true),
     Call::Verdict(1),
     Call::Promote(WORKER),
     Call::Permanent(WORKER),
-    Call::PermanentMarks(WORKER),
+    Call::PermanentHeader(WORKER),
     Call::Promote(SHARD),
     Call::BeginRestart(SHARD),
     Call::Initiator(2),
@@ -87,13 +87,13 @@ pub(crate) fn make<C: CkptStore>(
                 .tentative(alloc, node)?
                 .map(|t| (t.instance, t.checkpoint.line_len())),
         ),
-        Call::PermanentMarks(node) => {
-            Said::Checkpoint(store.permanent_marks(alloc, node)?.map(|m| m.line_len()))
+        Call::PermanentHeader(node) => {
+            Said::Checkpoint(store.permanent_header(alloc, node)?.map(|m| m.line_len()))
         }
-        Call::TentativeMarks(node) => Said::Tentative(
+        Call::TentativeHeader(node) => Said::Tentative(
             store
-                .tentative_marks(alloc, node)?
-                .map(|t| (t.instance, t.marks.line_len())),
+                .tentative_header(alloc, node)?
+                .map(|t| (t.instance, t.header.line_len())),
         ),
         Call::Verdict(instance) => Said::Verdict(store.verdict(instance)?),
         Call::Initiator(instance) => Said::Node(store.initiator(instance)?),
@@ -139,8 +139,8 @@ pub(crate) fn parted<C: CkptStore, D: CkptStore>(
             Call::Incarnation(node),
             Call::Permanent(node),
             Call::Tentative(node),
-            Call::PermanentMarks(node),
-            Call::TentativeMarks(node),
+            Call::PermanentHeader(node),
+            Call::TentativeHeader(node),
             Call::OpenOf(node),
         ] {
             if make(one, alloc, read, ckpt) != make(other, alloc, read, ckpt) {

@@ -1,6 +1,6 @@
 //! The cut of the permanent checkpoints, worked out from the notes and the store.
 
-use crate::cast::Cast;
+use crate::scene_size::SceneSize;
 use crate::finding::{Finding, holds};
 use crate::numbers::Numbers;
 use crate::runs::{are_same, space_after};
@@ -12,13 +12,13 @@ use std::alloc::{AllocError, Global};
 
 /// How many acts the node's permanent checkpoint holds, a tentative one counting from its Yes on.
 fn acts_held(alloc: Global, store: &mut MemStore, node: NodeId) -> Result<u64, StoreError> {
-    if let Some(tentative) = store.tentative_marks(alloc, node)? {
+    if let Some(tentative) = store.tentative_header(alloc, node)? {
         if store.verdict(tentative.instance)? == Some(Verdict::Yes) {
-            return Ok(tentative.marks.line_len());
+            return Ok(tentative.header.line_len());
         }
     }
-    Ok(match store.permanent_marks(alloc, node)? {
-        Some(marks) => marks.line_len(),
+    Ok(match store.permanent_header(alloc, node)? {
+        Some(header) => header.line_len(),
         None => 0,
     })
 }
@@ -41,11 +41,11 @@ fn cut_of(
     alloc: Global,
     store: &mut MemStore,
     notes: &[Note],
-    cast: Cast,
+    size: SceneSize,
 ) -> Result<Numbers, Finding> {
     let mut cut = Numbers::NONE;
-    for place in 0..cast.count() {
-        cut = cut.and(front_held(alloc, store, notes, cast.node(place))?);
+    for place in 0..size.count() {
+        cut = cut.and(front_held(alloc, store, notes, size.node(place))?);
     }
     Ok(cut)
 }
@@ -64,10 +64,10 @@ pub fn agrees(
     store: &mut MemStore,
     tuples: &[Tuple],
     notes: &[Note],
-    cast: Cast,
+    size: SceneSize,
     pasts: &Pasts,
 ) -> Result<(), Finding> {
-    let cut = cut_of(alloc, store, notes, cast)?;
+    let cut = cut_of(alloc, store, notes, size)?;
     holds(pasts.are_closed(cut), "the permanent cut is closed")?;
     let services = part(alloc, notes, cut)?;
     let space = space_after(alloc, notes, &services)?;

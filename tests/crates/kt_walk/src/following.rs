@@ -40,7 +40,7 @@ fn heard_reply(earlier: &[Note], act: &Act, answer: &Answer) -> bool {
     })
 }
 
-/// Whether the request of the act was served so before, in the line of its node.
+/// Whether the request of the act was served so before, in the log of its node.
 fn was_served(
     alloc: Global,
     earlier: &[Note],
@@ -72,7 +72,7 @@ fn act_fits(alloc: Global, earlier: &[Note], act: &Act) -> Result<bool, AllocErr
 }
 
 /// Whether the note makes sense after these: its cause is an earlier act that sent what was heard, and a cut keeps no
-/// more than the line has.
+/// more than the log has.
 pub fn fits(alloc: Global, earlier: &[Note], note: &Note) -> Result<bool, AllocError> {
     match note {
         Note::Act(act) => act_fits(alloc, earlier, act),

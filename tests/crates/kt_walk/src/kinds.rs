@@ -1,6 +1,6 @@
 //! Kinds of steps, drawn by weights.
 
-use crate::cast::Cast;
+use crate::scene_size::SceneSize;
 use crate::draws::Draws;
 use kt_core::Step;
 use kt_tuple::NodeId;
@@ -70,23 +70,23 @@ pub(crate) struct Who {
 
 impl Who {
     /// Those of this number: so each pair is found, and each node.
-    pub(crate) fn numbered(cast: Cast, number: u64) -> Who {
+    pub(crate) fn numbered(size: SceneSize, number: u64) -> Who {
         let (workers, shards) = (
-            u64::from(cast.workers.max(1)),
-            u64::from(cast.shards.max(1)),
+            u64::from(size.workers.max(1)),
+            u64::from(size.shards.max(1)),
         );
-        let nodes = u64::from(cast.count().max(1));
+        let nodes = u64::from(size.count().max(1));
         Who {
             worker: NodeId::Worker((number % workers) as u8 + 1),
             shard: NodeId::Shard((number / workers % shards) as u8 + 1),
-            node: cast.node((number % nodes) as u8),
+            node: size.node((number % nodes) as u8),
         }
     }
 
     /// Any, one of which may not be there.
-    pub(crate) fn any(cast: Cast, draws: &mut Draws) -> Who {
-        let worker = NodeId::Worker(draws.number_to(cast.workers.saturating_add(1)));
-        let shard = NodeId::Shard(draws.number_to(cast.shards.saturating_add(1)));
+    pub(crate) fn any(size: SceneSize, draws: &mut Draws) -> Who {
+        let worker = NodeId::Worker(draws.number_to(size.workers.saturating_add(1)));
+        let shard = NodeId::Shard(draws.number_to(size.shards.saturating_add(1)));
         let node = if draws.below(2) == 0 { worker } else { shard };
         Who {
             worker,
@@ -97,9 +97,9 @@ impl Who {
 }
 
 /// How many numbers there are, of which each pair and each node has one.
-pub(crate) fn numbers(cast: Cast) -> u64 {
-    let pairs = u64::from(cast.workers) * u64::from(cast.shards);
-    pairs.max(u64::from(cast.count()))
+pub(crate) fn numbers(size: SceneSize) -> u64 {
+    let pairs = u64::from(size.workers) * u64::from(size.shards);
+    pairs.max(u64::from(size.count()))
 }
 
 /// The step of this kind and place that they make.

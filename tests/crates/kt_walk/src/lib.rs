@@ -3,7 +3,7 @@
 #![tactic(auto)]
 
 pub mod asking;
-pub mod cast;
+pub mod scene_size;
 pub mod copies;
 pub mod cuts;
 pub mod draws;

@@ -1,6 +1,6 @@
 //! Random scenes. Each is told by its seed.
 
-use crate::cast::Cast;
+use crate::scene_size::SceneSize;
 use crate::draws::Draws;
 use crate::finding::Finding;
 use crate::scripts::command;
@@ -95,57 +95,57 @@ fn random_script(alloc: Global, draws: &mut Draws, commands: u32) -> Result<Scri
     Ok(script)
 }
 
-/// A scene of this cast, with so many commands at most for each worker.
+/// A scene of this size, with so many commands at most for each worker.
 fn random_scene(
     alloc: Global,
     draws: &mut Draws,
-    cast: Cast,
+    size: SceneSize,
     commands: u32,
 ) -> Result<Scene, Finding> {
     let mut scripts = Vec::new(alloc);
-    for _ in 0..cast.workers {
+    for _ in 0..size.workers {
         scripts.push(random_script(alloc, draws, commands)?)?;
     }
-    Scene::new(cast.shards, scripts).ok_or(Finding::NotMade("a scene"))
+    Scene::new(size.shards, scripts).ok_or(Finding::NotMade("a scene"))
 }
 
 /// One to so many workers, and one to so many shards.
-fn few(draws: &mut Draws, most: u8) -> Cast {
+fn few(draws: &mut Draws, most: u8) -> SceneSize {
     let (workers, shards) = (draws.number_to(most), draws.number_to(most));
-    Cast { workers, shards }
+    SceneSize { workers, shards }
 }
 
 /// The same; but a third of them has more than `FEW` workers, up to as many as there may be.
-fn few_or_many(draws: &mut Draws, most: u8) -> Cast {
-    let mut cast = few(draws, most);
+fn few_or_many(draws: &mut Draws, most: u8) -> SceneSize {
+    let mut size = few(draws, most);
     if draws.below(3) == 0 {
-        cast.workers = FEW.saturating_add(draws.number_to(MAX_WORKERS.saturating_sub(FEW)));
+        size.workers = FEW.saturating_add(draws.number_to(MAX_WORKERS.saturating_sub(FEW)));
     }
-    cast
+    size
 }
 
 /// Who takes part in the scene of this seed that has at most so many workers and so many shards, or many workers.
-pub fn cast_up_to(most: u8, seed: u64) -> Cast {
+pub fn size_up_to(most: u8, seed: u64) -> SceneSize {
     few_or_many(&mut Draws::of(seed), most)
 }
 
 /// The scene of this seed that has at most so many workers and so many shards, or many workers.
 pub fn scene_up_to(alloc: Global, most: u8, seed: u64) -> Result<Scene, Finding> {
     let mut draws = Draws::of(seed);
-    let cast = few_or_many(&mut draws, most);
-    random_scene(alloc, &mut draws, cast, COMMANDS)
+    let size = few_or_many(&mut draws, most);
+    random_scene(alloc, &mut draws, size, COMMANDS)
 }
 
 /// The scene of this seed that has at most as many workers and shards as a walk with few, of so many commands at most.
 pub fn short_scene_of(alloc: Global, commands: u32, seed: u64) -> Result<Scene, Finding> {
     let mut draws = Draws::of(seed);
-    let cast = few(&mut draws, MOST);
-    random_scene(alloc, &mut draws, cast, commands)
+    let size = few(&mut draws, MOST);
+    random_scene(alloc, &mut draws, size, commands)
 }
 
 /// Who takes part in the walk of this seed.
-pub fn cast_of(seed: u64) -> Cast {
-    cast_up_to(MOST, seed)
+pub fn size_of(seed: u64) -> SceneSize {
+    size_up_to(MOST, seed)
 }
 
 /// The scene of the walk of this seed.

@@ -1,6 +1,6 @@
 //! What can be seen of a world at once: counts and modes.
 
-use crate::cast::Cast;
+use crate::scene_size::SceneSize;
 use crate::scenes::Game;
 use kt_core::Step;
 use kt_node::Mode;
@@ -15,12 +15,12 @@ pub(crate) struct Shape {
 }
 
 /// What is seen of the world.
-pub(crate) fn shape_of(world: &Game, cast: Cast) -> Shape {
+pub(crate) fn shape_of(world: &Game, size: SceneSize) -> Shape {
     let mut nodes = [(None, 0); MAX_NODES];
     let mut place = 0u8;
     for row in &mut nodes {
-        if place < cast.count() {
-            let node = cast.node(place);
+        if place < size.count() {
+            let node = size.node(place);
             *row = (world.mode(node), world.steps_of(node));
         }
         place = place.saturating_add(1);
@@ -34,12 +34,12 @@ pub(crate) fn shape_of(world: &Game, cast: Cast) -> Shape {
 
 /// Whether this is what a step leaves that was made: one step more of its owner, one note more at most, and nothing
 /// else of the other nodes.
-pub(crate) fn is_made_by(cast: Cast, before: Shape, after: Shape, step: Step) -> bool {
+pub(crate) fn is_made_by(size: SceneSize, before: Shape, after: Shape, step: Step) -> bool {
     let mut place = 0u8;
     for ((mode, own), (new_mode, new_own)) in before.nodes.iter().zip(&after.nodes) {
         let is_same = new_mode == mode && new_own == own;
         let is_more = *new_own == own.saturating_add(1);
-        let is_owner = place < cast.count() && cast.node(place) == step.owner();
+        let is_owner = place < size.count() && size.node(place) == step.owner();
         if !(is_more && is_owner || is_same && !is_owner) {
             return false;
         }

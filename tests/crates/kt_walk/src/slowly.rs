@@ -6,7 +6,7 @@ use kt_history::{Act, History, Note, What};
 use kt_tuple::{ALL_NODES, Answer, NodeId, Service};
 use std::alloc::{AllocError, Global};
 
-/// The node's line after these notes: the numbers of its acts that were not cut off.
+/// The node's log after these notes: the numbers of its acts that were not cut off.
 pub fn line_after(alloc: Global, notes: &[Note], node: NodeId) -> Result<Vec<usize>, AllocError> {
     let mut line = Vec::new(alloc);
     for (place, note) in notes.iter().enumerate() {
@@ -31,7 +31,7 @@ fn follow(
     Ok(())
 }
 
-/// The act that stood last in the node's line after these notes, 0 where there was none.
+/// The act that stood last in the node's log after these notes, 0 where there was none.
 fn last_act(alloc: Global, notes: &[Note], node: NodeId) -> Result<usize, AllocError> {
     let line = line_after(alloc, notes, node)?;
     Ok(match line.last() {
@@ -40,7 +40,7 @@ fn last_act(alloc: Global, notes: &[Note], node: NodeId) -> Result<usize, AllocE
     })
 }
 
-/// The history's lines are these.
+/// The history's logs are these.
 pub fn are_lines(alloc: Global, history: &History) -> Result<(), Finding> {
     for node in ALL_NODES {
         is_line(alloc, history, node)?;
@@ -90,7 +90,7 @@ impl Pasts {
         Ok(())
     }
 
-    /// An act's past are the pasts of the act that stood last in its node's line just before it, and of its cause.
+    /// An act's past are the pasts of the act that stood last in its node's log just before it, and of its cause.
     fn past_at(&self, alloc: Global, notes: &[Note], place: usize) -> Result<Numbers, AllocError> {
         let Some(Note::Act(act)) = notes.get(place) else {
             return Ok(Numbers::NONE);
@@ -107,7 +107,7 @@ impl Pasts {
     }
 }
 
-/// Which acts stand in their nodes' lines in the end.
+/// Which acts stand in their nodes' logs in the end.
 pub fn standing(alloc: Global, notes: &[Note]) -> Result<Numbers, AllocError> {
     let mut stands = Numbers::NONE;
     for node in ALL_NODES {

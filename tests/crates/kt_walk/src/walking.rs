@@ -1,6 +1,6 @@
 //! Random walks: steps of all kinds, failures and refused ones among them, and what must hold after each.
 
-use crate::cast::Cast;
+use crate::scene_size::SceneSize;
 use crate::draws::Draws;
 use crate::finding::Finding;
 use crate::kinds::{Kind, Who, numbers, onward, seldom, step_of};
@@ -28,8 +28,8 @@ impl Walker {
         })
     }
 
-    fn cast(&self) -> Cast {
-        self.watched.cast()
+    fn size(&self) -> SceneSize {
+        self.watched.size()
     }
 
     /// Tries a step of any kind of any nodes, or something that is seldom done, or brings on what was begun.
@@ -46,7 +46,7 @@ impl Walker {
 
     /// Tries a step of this kind of any nodes, also such as are not there.
     fn try_any(&mut self, alloc: Global, kind: Kind, tally: &mut Tally) -> Result<(), Finding> {
-        let who = Who::any(self.cast(), &mut self.draws);
+        let who = Who::any(self.size(), &mut self.draws);
         self.watched.go(alloc, step_of(kind, who, 0), tally)?;
         Ok(())
     }
@@ -64,11 +64,11 @@ impl Walker {
 
     /// Tries steps of this kind, of one node after the other, until one is made.
     fn go_some(&mut self, alloc: Global, kind: Kind, tally: &mut Tally) -> Result<bool, Finding> {
-        let most = numbers(self.cast()).max(1);
+        let most = numbers(self.size()).max(1);
         let first = self.draws.below(most);
         let place = self.draws.below(3) / 2;
         for number in 0..most {
-            let who = Who::numbered(self.cast(), first.saturating_add(number));
+            let who = Who::numbered(self.size(), first.saturating_add(number));
             if self.watched.go(alloc, step_of(kind, who, place), tally)? {
                 return Ok(true);
             }

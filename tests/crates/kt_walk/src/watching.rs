@@ -1,6 +1,6 @@
 //! A world that is watched: its steps, and what must hold after each of them.
 
-use crate::cast::Cast;
+use crate::scene_size::SceneSize;
 use crate::copies::copy_of;
 use crate::cuts;
 use crate::finding::{Finding, holds};
@@ -19,7 +19,7 @@ use std::alloc::Global;
 /// A world over a store in memory, with what is worked out of its notes, and the steps that led to it.
 #[derive(Drop)]
 pub struct Watched {
-    cast: Cast,
+    size: SceneSize,
     world: Game,
     /// The pasts of what is noted so far.
     pasts: Pasts,
@@ -40,12 +40,12 @@ fn opened(alloc: Global, scene: Scene) -> Result<Game, Finding> {
 impl Watched {
     /// The world of the scene, in which nothing was done.
     pub fn open(alloc: Global, scene: Scene) -> Result<Watched, Finding> {
-        let cast = Cast {
+        let size = SceneSize {
             workers: u8::try_from(scene.scripts().len()).unwrap_or(0),
             shards: scene.shards(),
         };
         Ok(Watched {
-            cast,
+            size,
             pasts: Pasts::new(alloc)?,
             world: opened(alloc, scene)?,
             tried: Vec::new(alloc),
@@ -55,8 +55,8 @@ impl Watched {
     }
 
     /// Who takes part.
-    pub fn cast(&self) -> Cast {
-        self.cast
+    pub fn size(&self) -> SceneSize {
+        self.size
     }
 
     /// The world as it is.
@@ -85,7 +85,7 @@ impl Watched {
     }
 
     fn shape(&self) -> Shape {
-        shape_of(&self.world, self.cast)
+        shape_of(&self.world, self.size)
     }
 
     /// Makes the step, which has to be enabled, and checks nothing of what it leads to.
@@ -125,7 +125,7 @@ impl Watched {
             return Ok(false);
         }
         holds(
-            is_made_by(self.cast, before, self.shape(), step),
+            is_made_by(self.size, before, self.shape(), step),
             "only its owner changes",
         )?;
         count(&mut tally.made, step_number(step));
@@ -194,7 +194,7 @@ impl Watched {
         tuples: &[Tuple],
     ) -> Result<(), Finding> {
         let notes = self.world.history().notes();
-        cuts::agrees(alloc, store, tuples, notes, self.cast, &self.pasts)
+        cuts::agrees(alloc, store, tuples, notes, self.size, &self.pasts)
     }
 
     /// Counts how the instances and the services ended. Here the refused steps are tried once more too.

@@ -1,6 +1,6 @@
 //! Worked scenarios with checkpoints and failures.
 
-use crate::cast::Cast;
+use crate::scene_size::SceneSize;
 use crate::finding::Finding;
 use crate::lines::step;
 use crate::scripts::script;
@@ -10,7 +10,7 @@ use std::alloc::Global;
 /// Who takes part, and the steps.
 #[derive(Clone, Copy)]
 pub struct Scenario {
-    pub cast: Cast,
+    pub size: SceneSize,
     pub scripts: &'static [&'static [&'static str]],
     pub steps: &'static [&'static str],
 }
@@ -22,7 +22,7 @@ impl Scenario {
         for texts in self.scripts {
             scripts.push(script(alloc, texts)?)?;
         }
-        Scene::new(self.cast.shards, scripts).ok_or(Finding::NotMade("a scene"))
+        Scene::new(self.size.shards, scripts).ok_or(Finding::NotMade("a scene"))
     }
 
     /// Its first steps, so many of them at most.
@@ -37,7 +37,7 @@ impl Scenario {
 
 /// A worker and a shard take a checkpoint together.
 pub const CHECKPOINT_OF_TWO: Scenario = Scenario {
-    cast: Cast {
+    size: SceneSize {
         workers: 1,
         shards: 1,
     },
@@ -61,7 +61,7 @@ pub const CHECKPOINT_OF_TWO: Scenario = Scenario {
 
 /// A shard fails when its check has Yes, and learns it.
 pub const FAILS_AFTER_YES: Scenario = Scenario {
-    cast: Cast {
+    size: SceneSize {
         workers: 1,
         shards: 1,
     },
@@ -85,7 +85,7 @@ pub const FAILS_AFTER_YES: Scenario = Scenario {
 
 /// A reply is kept during a check; then the shard fails, and the kept reply is dropped.
 pub const KEPT_REPLY_DROPPED: Scenario = Scenario {
-    cast: Cast {
+    size: SceneSize {
         workers: 1,
         shards: 1,
     },
@@ -106,7 +106,7 @@ pub const KEPT_REPLY_DROPPED: Scenario = Scenario {
 
 /// Worker and shard fail, roll each other back, and the worker asks again.
 pub const BOTH_FAIL: Scenario = Scenario {
-    cast: Cast {
+    size: SceneSize {
         workers: 1,
         shards: 1,
     },
@@ -133,7 +133,7 @@ pub const BOTH_FAIL: Scenario = Scenario {
 
 /// A worker's checkpoint holds a request, of which its shard learns again after the worker failed.
 pub const REQUEST_IN_CHECKPOINT: Scenario = Scenario {
-    cast: Cast {
+    size: SceneSize {
         workers: 1,
         shards: 1,
     },
@@ -160,7 +160,7 @@ pub const REQUEST_IN_CHECKPOINT: Scenario = Scenario {
 
 /// Two checks that overlap, of which none succeeds.
 pub const OVERLAPPING_INSTANCES: Scenario = Scenario {
-    cast: Cast {
+    size: SceneSize {
         workers: 2,
         shards: 1,
     },
@@ -194,7 +194,7 @@ pub const OVERLAPPING_INSTANCES: Scenario = Scenario {
 
 /// A failed worker's rollback reaches who depends on what it put, and nobody else.
 pub const CASCADE: Scenario = Scenario {
-    cast: Cast {
+    size: SceneSize {
         workers: 3,
         shards: 3,
     },
@@ -255,7 +255,7 @@ pub const CASCADE: Scenario = Scenario {
 /// Three workers over two shards: one puts what the two others take and read, and two checks go on meanwhile, of which
 /// one reaches both shards.
 pub const THREE_OVER_TWO: Scenario = Scenario {
-    cast: Cast {
+    size: SceneSize {
         workers: 3,
         shards: 2,
     },

@@ -7,4 +7,4 @@ returns-clause-value c =
     spelled_out _ _ _ _ _ _ _
     (record { node = a.node; line_len = a.line_len; sent = a.sent.now; received = a.received.now; state = a.state.now; acts = a.acts.now })
     c.new-out.ensures.items c.in_ok-push_front.ensures c.in_ok-push_node.ensures c.in_ok-push_u64.ensures c.in_ok-push_peers.ensures.ok
-    c.in_ok-push_state.ensures.ok c.in_ok-push_line.ensures.ok
+    c.in_ok-push_state.ensures.ok c.in_ok-push_log.ensures.ok

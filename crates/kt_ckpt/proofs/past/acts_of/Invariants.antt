@@ -1,5 +1,5 @@
 use Rattle.std.proofs.Common.{◌≡◌}
-use Rattle.kt_ckpt.proofs.TakenLines.{first_acts}
+use Rattle.kt_ckpt.proofs.TakenLogs.{first_acts}
 use Rattle.kt_ckpt.proofs.past.acts_of.Given as goal
 
 abbrev pub invariant-loop-number : goal.invariant-loop-number

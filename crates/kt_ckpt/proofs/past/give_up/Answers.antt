@@ -1,6 +1,6 @@
 use Rattle.std.proofs.Common.{subst, sym}
 use Rattle.kt_history.specs.declared.note.Note.{Note}
-use Rattle.kt_ckpt.specs.inner.Gathered.{IsLeft, row}
+use Rattle.kt_ckpt.specs.auxiliary.Gathered.{IsLeft, row}
 use Rattle.kt_ckpt.proofs.Gatherings.{left-all}
 use Rattle.kt_ckpt.proofs.past.give_up.Goals as goal
 

@@ -1,6 +1,6 @@
 use Rattle.std.proofs.Common.{◌≡◌, ◌+◌, ◌-◌, vec_len}
 use Rattle.kt_tuple.specs.declared.node.NodeId.{NodeId}
-use Rattle.kt_ckpt.specs.inner.Gathered.{row}
+use Rattle.kt_ckpt.specs.auxiliary.Gathered.{row}
 use Rattle.kt_ckpt.proofs.past.put.Given as goal
 
 abbrev pub invariant-grow : goal.invariant-grow

@@ -9,7 +9,7 @@ use Rattle.kt_command.proofs.carrying.carry_connected.Goals as goal
 pub returns-in-Ok-carry-clause-told : goal.returns-in-Ok-carry-clause-told
 returns-in-Ok-carry-clause-told g c =
     let P : List ℕ → Type 0 =
-    λ text. IsReplayedReport starts.Open (memory_value c.new.result) (memory_value c.in-Ok.store) c.args.reader.now c.report_over.new.reader text in
+    λ text. IsReplayedReport starts.Open (memory_value c.new.result) (memory_value c.in-Ok.store) c.args.reader.now c.report_returning_store.new.reader text in
     carried_told g.O.Carries.carries c.args.connection _ _ _ _ c.new.result c.in-Ok.store c.new.ensures _ c.deref.result.now c.write_text.result
     c.in-Ok-carry.ensures (subst P (sym c.deref.ensures.value) c.in-Ok.ensures.told) c.end_replay.ensures.status c.write_text.ensures.whole
     c.write_text.ensures.front c.write_text.ensures.only

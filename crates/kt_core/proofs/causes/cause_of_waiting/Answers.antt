@@ -1,4 +1,4 @@
-use Rattle.kt_lines.proofs.Shared.{heard_here, not_heard, no_act}
+use Rattle.kt_logs.proofs.Shared.{heard_here, not_heard, no_act}
 use Rattle.kt_core.proofs.causes.cause_of_waiting.Goals as goal
 
 pub returns-then-hears : goal.returns-then-hears

@@ -1,9 +1,9 @@
 use Rattle.std.specs.Prelude.{Option, None}
 use Rattle.std.specs.Option.{option_map}
-use Rattle.kt_node.specs.Node.{Node}
-use Rattle.kt_node.specs.Turning.{changed}
-use Rattle.kt_core.specs.inner.Rows.{row_view}
-use Rattle.kt_lines.proofs.Shared.{map-set_changed}
+use Rattle.kt_state.specs.Node.{Node}
+use Rattle.kt_state.specs.Updating.{changed}
+use Rattle.kt_core.specs.auxiliary.Rows.{row_view}
+use Rattle.kt_logs.proofs.Shared.{map-set_changed}
 use Rattle.kt_core.proofs.change.change_node.Goals as goal
 
 pub returns : goal.returns

@@ -1,4 +1,4 @@
-use Rattle.kt_lines.proofs.Shared.{set_counted}
+use Rattle.kt_logs.proofs.Shared.{set_counted}
 use Rattle.kt_core.proofs.change.count.Goals as goal
 
 pub returns : goal.returns

@@ -1,5 +1,5 @@
-use Rattle.kt_core.specs.inner.Rows.{row_view}
-use Rattle.kt_lines.proofs.Shared.{map-set_same}
+use Rattle.kt_core.specs.auxiliary.Rows.{row_view}
+use Rattle.kt_logs.proofs.Shared.{map-set_same}
 use Rattle.kt_core.proofs.change.share_in_row.Goals as goal
 
 pub returns-clause-same : goal.returns-clause-same

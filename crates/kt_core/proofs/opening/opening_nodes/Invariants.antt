@@ -1,6 +1,6 @@
 use Rattle.std.proofs.Common.{◌≡◌, map}
-use Rattle.kt_core.specs.inner.Rows.{row_view}
-use Rattle.kt_world.specs.Reached.{opening_rows}
+use Rattle.kt_core.specs.auxiliary.Rows.{row_view}
+use Rattle.kt_model.specs.Reached.{opening_rows}
 use Rattle.kt_core.proofs.opening.opening_nodes.Given as goal
 
 abbrev pub invariant-loop-number : goal.invariant-loop-number

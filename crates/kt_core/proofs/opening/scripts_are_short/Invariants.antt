@@ -1,6 +1,6 @@
 use Rattle.std.proofs.Common.{ℕ, ◌<◌}
 use Rattle.std.specs.Prelude.{IfSome, slice_get}
-use Rattle.kt_world.specs.Short.{IsShort}
+use Rattle.kt_model.specs.Short.{IsShort}
 use Rattle.kt_core.proofs.opening.scripts_are_short.Given as goal
 
 -- the scripts so far

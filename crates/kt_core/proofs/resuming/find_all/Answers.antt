@@ -4,7 +4,7 @@ use Rattle.kt_tuple.specs.declared.node.NodeId.{NodeId}
 use Rattle.kt_ckpt.proofs.Shared.{take-whole}
 use Rattle.kt_store.specs.Content.{Content, nodes_in}
 use Rattle.kt_store.specs.Proper.{IsProper}
-use Rattle.kt_core.specs.inner.Gathering.{found_in}
+use Rattle.kt_core.specs.auxiliary.Gathering.{found_in}
 use Rattle.kt_core.proofs.resuming.find_all.Goals as goal
 
 pub returns-clause-found : goal.returns-clause-found

@@ -1,6 +1,6 @@
 use Rattle.std.proofs.Common.{◌≡◌, map, take}
 use Rattle.std.specs.Prelude.{IsTrue}
-use Rattle.kt_core.specs.inner.Gathering.{found_in}
+use Rattle.kt_core.specs.auxiliary.Gathering.{found_in}
 use Rattle.kt_core.proofs.Later.{Follows}
 use Rattle.kt_core.proofs.resuming.find_all.Given as goal
 

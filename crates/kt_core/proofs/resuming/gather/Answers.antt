@@ -2,13 +2,13 @@ use Rattle.std.proofs.Common.{◌≡◌, ◌∙◌, ◌-◌, All, List, ap, subs
 use Rattle.std.specs.Prelude.{IsTrue}
 use Rattle.kt_tuple.specs.declared.node.NodeId.{NodeId}
 use Rattle.kt_store.specs.Content.{Content, next_instance}
-use Rattle.kt_world.specs.Resumed.{history_of}
+use Rattle.kt_model.specs.Resumed.{history_of}
 use Rattle.kt_resume.specs.declared.found.Found.{Found}
 use Rattle.kt_resume.specs.Found.{content_of}
 use Rattle.kt_resume.specs.Judging.{IsGood}
 use Rattle.kt_core.specs.declared.resuming.ResumeError.{ResumeError}
 use Rattle.kt_core.specs.declared.resuming.ResumeError.TheVariants as refusals
-use Rattle.kt_core.specs.inner.Gathering.{AreAllFound, IsFoundUnfit}
+use Rattle.kt_core.specs.auxiliary.Gathering.{AreAllFound, IsFoundUnfit}
 use Rattle.kt_core.specs.Resuming.{IsFirstUnfit}
 use Rattle.kt_core.proofs.Resumes.{found-fits, found-history, found-some, found-unfit, unjudged-unfit}
 use Rattle.kt_core.proofs.Steps.{on-refusal}
@@ -19,7 +19,8 @@ returns-in_err-found-clause-unfit g c =
     let old = g.S.CkptStore.content c.args.store.now in
     let Unfit : ResumeError → Type 0 = λ e. (p : NodeId) → e ≡ refusals.Unfit p → IsFirstUnfit c.args.scene.now old p in
     λ h. on-refusal c.from_residual.result _ Unfit c.from_residual.ensures.1
-    (λ e is. subst Unfit (sym is) (λ p same. unjudged-unfit c.in_err-found.field-0.0 (IsFirstUnfit c.args.scene.now old p) c.in_err-found.ensures.unjudged p same))
+    (λ e is. subst Unfit (sym is) (λ p same. unjudged-unfit c.in_err-found.field-0.0 (IsFirstUnfit c.args.scene.now old p) c.in_err-found.ensures.unjudged p
+    same))
 
 pub returns-in_err-history-clause-unfit : goal.returns-in_err-history-clause-unfit
 returns-in_err-history-clause-unfit g c =

@@ -1,5 +1,5 @@
 use Rattle.kt_tuple.specs.declared.node.NodeId.TheVariants as ids
-use Rattle.kt_world.specs.Cut.{permanent_of, tuples_of}
+use Rattle.kt_model.specs.Cut.{permanent_of, tuples_of}
 use Rattle.kt_core.proofs.Later.{added}
 use Rattle.kt_core.proofs.space.permanent_tuples.Goals as goal
 

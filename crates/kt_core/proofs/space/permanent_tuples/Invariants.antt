@@ -2,7 +2,7 @@ use Rattle.std.proofs.Common.{◌≡◌}
 use Rattle.std.specs.Prelude.{IsTrue}
 use Rattle.std.specs.List.{flat_map, range_with_len}
 use Rattle.kt_tuple.specs.declared.node.NodeId.TheVariants as ids
-use Rattle.kt_world.specs.Cut.{permanent_of, tuples_of}
+use Rattle.kt_model.specs.Cut.{permanent_of, tuples_of}
 use Rattle.kt_core.proofs.Later.{Follows}
 use Rattle.kt_core.proofs.space.permanent_tuples.Given as goal
 

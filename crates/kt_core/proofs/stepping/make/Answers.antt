@@ -1,8 +1,8 @@
 use Rattle.std.proofs.Common.{subst, sym}
 use Rattle.std.specs.Prelude.{IsTrue}
-use Rattle.kt_world.specs.Judge.{IsUndamaged}
+use Rattle.kt_model.specs.StepPlan.{IsUndamaged}
 use Rattle.kt_store.specs.Content.{empty_content}
-use Rattle.kt_core.specs.inner.Machine.{state_of}
+use Rattle.kt_core.specs.auxiliary.Machine.{state_of}
 use Rattle.kt_core.proofs.Steps.{by-result}
 use Rattle.kt_core.specs.declared.machine.Machine.{Machine}
 use Rattle.kt_core.proofs.stepping.make.Goals as goal

@@ -1,12 +1,12 @@
 use Rattle.std.proofs.Common.{ap, subst, sym, ◌∙◌}
 use Rattle.kt_store.specs.Content.{empty_content}
-use Rattle.kt_world.specs.Effect.{applied}
-use Rattle.kt_world.specs.inner.Ready.{CanApply, IsReady}
-use Rattle.kt_world.specs.State.{State}
-use Rattle.kt_world.specs.Step.{owner}
-use Rattle.kt_world.specs.Writing.{content_after}
-use Rattle.kt_core.specs.inner.Machine.{state_of}
-use Rattle.kt_world.specs.declared.step.StepError.{StepError}
+use Rattle.kt_model.specs.Effect.{applied}
+use Rattle.kt_model.specs.auxiliary.Ready.{CanApply, IsReady}
+use Rattle.kt_model.specs.State.{State}
+use Rattle.kt_scenario.specs.Step.{owner}
+use Rattle.kt_model.specs.Writing.{content_after}
+use Rattle.kt_core.specs.auxiliary.Machine.{state_of}
+use Rattle.kt_model.specs.declared.error.StepError.{StepError}
 use Rattle.kt_core.specs.Stepping.{IsCalledFor, IsCause}
 use Rattle.kt_core.specs.World.{beside}
 use Rattle.kt_core.proofs.Steps.{allowed, called-write, effect, on-error, on-refusal, read-caused, ready-beside, write-caused}
@@ -88,9 +88,9 @@ returns-clause-effect g c =
 
 pub returns-clause-by_plan : goal.returns-clause-by_plan
 returns-clause-by_plan g c = record {
-  told = c.in_ok-plan.ensures.told.0;
+  store_reads = c.in_ok-plan.ensures.store_reads.0;
   plan = c.in_ok-plan.plan;
-  is = c.in_ok-plan.ensures.told.1;
+  is = c.in_ok-plan.ensures.store_reads.1;
   leads = ap beside (c.carry_out.ensures empty_content)
       ∙ ap (λ (s : State). beside (applied s c.args.step c.in_ok-plan.plan)) (c.in_ok-plan.ensures.same empty_content);
 }

@@ -1,8 +1,8 @@
 use Rattle.std.proofs.Common.{◌≤◌, length, take, arith, add-one}
 use Rattle.kt_tuple.specs.declared.node.NodeId.{NodeId}
 use Rattle.kt_link.specs.Network.{room}
-use Rattle.kt_node.specs.declared.message.Message.{Message}
-use Rattle.kt_world.proofs.Shared.{all-through}
+use Rattle.kt_state.specs.declared.message.Message.{Message}
+use Rattle.kt_model.proofs.Shared.{all-through}
 use Rattle.kt_core.proofs.Traffics.{Net, reserved, rooms_kept, all-next}
 use Rattle.kt_core.proofs.traffic.make_room_on_links.Goals as goal
 

@@ -1,7 +1,7 @@
 use Rattle.std.proofs.Common.{◌≤◌, length, take}
 use Rattle.std.specs.List.{AllByRecursion}
 use Rattle.kt_link.specs.Network.{room}
-use Rattle.kt_core.specs.inner.Traffic.{IsSameTraffic}
+use Rattle.kt_core.specs.auxiliary.Traffic.{IsSameTraffic}
 use Rattle.kt_core.proofs.traffic.make_room_on_links.Given as goal
 
 -- nothing changed on the links, and there is room for the messages so far

@@ -1,7 +1,7 @@
 use Rattle.std.proofs.Common.{sym, ap, ◌∙◌}
 use Rattle.std.specs.Prelude.{option_to_list}
 use Rattle.kt_link.specs.Network.{place}
-use Rattle.kt_world.specs.Effect.{sent}
+use Rattle.kt_model.specs.Effect.{sent}
 use Rattle.kt_core.proofs.Traffics.{sent-none}
 use Rattle.kt_core.proofs.traffic.send_if_any.Goals as goal
 

@@ -1,5 +1,5 @@
 use Rattle.std.proofs.Common.{◌≡◌, ◌≤◌, take}
-use Rattle.kt_history.specs.inner.Marks.{lost_among}
+use Rattle.kt_history.specs.auxiliary.Marks.{lost_among}
 use Rattle.kt_history.proofs.mark.count_lost.Given as goal
 
 abbrev pub invariant-loop-place : goal.invariant-loop-place

@@ -3,7 +3,7 @@ use Rattle.std.specs.List.{slice_get}
 use Rattle.std.proofs.lemmas.List.{set-get_or}
 use Rattle.std.proofs.lemmas.Option.{slice_get_read}
 use Rattle.kt_history.specs.declared.note.Note.TheVariants as notes
-use Rattle.kt_history.specs.inner.Marks.{mark_at, no_mark, renewed}
+use Rattle.kt_history.specs.auxiliary.Marks.{mark_at, no_mark, renewed}
 use Rattle.kt_history.proofs.mark.renew_at.Goals as goal
 
 -- a note that is no act keeps its mark

@@ -1,5 +1,5 @@
 use Rattle.std.proofs.Common.{◌+◌, ◌-◌, vec_len}
-use Rattle.kt_history.specs.inner.Marks.{SameRows}
+use Rattle.kt_history.specs.auxiliary.Marks.{SameRows}
 use Rattle.kt_history.proofs.rows.reserve_row.Given as goal
 
 abbrev pub invariant-grow : goal.invariant-grow

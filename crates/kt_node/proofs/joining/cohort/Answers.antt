@@ -3,7 +3,7 @@ use Rattle.std.specs.Option.{option_copied}
 use Rattle.std.proofs.lemmas.Fn.{filter_same}
 use Rattle.std.proofs.lemmas.List.Kept.{AllPairs-filter}
 use Rattle.kt_vote.specs.Order.{IsBefore, IsInOrder}
-use Rattle.kt_node.specs.inner.Codes.{live_view}
+use Rattle.kt_state.specs.Codes.{live_view}
 use Rattle.kt_node.specs.Joining.{is_in_cohort}
 use Rattle.kt_node.proofs.joining.cohort.Goals as goal
 

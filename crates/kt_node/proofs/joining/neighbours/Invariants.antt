@@ -1,6 +1,6 @@
 use Rattle.std.proofs.Common.{◌≡◌, map}
-use Rattle.kt_node.specs.Labels.{numbers}
-use Rattle.kt_node.specs.Node.{across}
+use Rattle.kt_state.specs.Labels.{numbers}
+use Rattle.kt_state.specs.Node.{across}
 use Rattle.kt_node.proofs.joining.neighbours.Given as goal
 
 abbrev pub invariant-loop-number : goal.invariant-loop-number

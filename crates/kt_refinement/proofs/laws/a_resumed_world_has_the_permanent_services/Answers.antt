@@ -1,4 +1,4 @@
-use Rattle.kt_world.proofs.Shared.{resumed_services}
+use Rattle.kt_model.proofs.Shared.{resumed_services}
 use Rattle.kt_refinement.proofs.Whole.{closed-reached}
 use Rattle.kt_refinement.proofs.laws.a_resumed_world_has_the_permanent_services.Goals as goal
 

@@ -1,16 +1,17 @@
-use Rattle.std.proofs.Common.{◌≡◌, ◌+◌, ◌<◌, suc, List, ◌∷◌, ◌++◌, false, true, take, drop, get_or, length, refl, sym, ap, ◌∙◌, subst, drop-cons, take-append-drop}
+use Rattle.std.proofs.Common.{◌≡◌, ◌+◌, ◌<◌, suc, List, ◌∷◌, ◌++◌, false, true, take, drop, get_or, length, refl, sym, ap, ◌∙◌, subst, drop-cons}
+use Rattle.std.proofs.Common.{take-append-drop}
 use Rattle.std.specs.Prelude.{All, IsTrue}
 use Rattle.std.proofs.lemmas.List.{take_all}
 use Rattle.std.proofs.lemmas.List.Elements.{All-more}
 use Rattle.kt_resume.specs.declared.found.Found.{Found}
-use Rattle.kt_resume.specs.Found.{cast_of, content_of}
+use Rattle.kt_resume.specs.Found.{scene_of, content_of}
 use Rattle.kt_resume.specs.Judging.{IsGood}
 use Rattle.kt_resume.proofs.judging.first_unfit.Goals as goal
 use Rattle.kt_resume.proofs.judging.first_unfit.Goals.{then-fits, else-fits}
 
 pub loop-held-preserved : goal.loop-held-preserved
 loop-held-preserved c =
-    let P : Found → Type 0 = IsGood (cast_of c.args.shards c.args.scripts.now) (content_of c.args.found.now) in
+    let P : Found → Type 0 = IsGood (scene_of c.args.shards c.args.scripts.now) (content_of c.args.found.now) in
     let held = c.held-item.result in
     let good : P held = elim c.if-fits.branch [
       | then-fits w ↦ (c.in_ok-fits.ensures.0 w.if-fits.true, sym w.value-is ∙ c.if-not-held.false)
@@ -28,7 +29,8 @@ returns-then-not-held-clause-first c =
       later = drop (suc i) found;
       split =
           sym (take-append-drop i found)
-          ∙ ap (λ (l : List Found). take i found ++ l) (drop-cons found i held c.loop-held-test.true ∙ ap (λ (f : Found). f ∷ drop (suc i) found) (sym c.held-item.is));
+          ∙ ap (λ (l : List Found). take i found ++ l) (drop-cons found i held c.loop-held-test.true
+          ∙ ap (λ (f : Found). f ∷ drop (suc i) found) (sym c.held-item.is));
       node = refl;
       good = c.loop-held.invariant;
       unfit = λ good. elim c.if-fits.branch [
@@ -39,5 +41,5 @@ returns-then-not-held-clause-first c =
 
 pub returns-clause-none : goal.returns-clause-none
 returns-clause-none c = λ e.
-    let P : Found → Type 0 = IsGood (cast_of c.args.shards c.args.scripts.now) (content_of c.args.found.now) in
+    let P : Found → Type 0 = IsGood (scene_of c.args.shards c.args.scripts.now) (content_of c.args.found.now) in
     subst (All P) (take_all c.loop-held.held-index c.args.found.now c.loop-held-test.false) c.loop-held.invariant

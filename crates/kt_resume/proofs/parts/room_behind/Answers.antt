@@ -1,7 +1,7 @@
 use Rattle.std.proofs.Common.{◌+◌, ◌∙◌, sym, arith}
 use Rattle.kt_tuple.specs.declared.node.NodeId.{NodeId}
 use Rattle.kt_tuple.specs.Node.{is_before}
-use Rattle.kt_world.specs.Resumed.{sum_of}
+use Rattle.kt_model.specs.Resumed.{sum_of}
 use Rattle.kt_resume.specs.Found.{content_of}
 use Rattle.kt_resume.proofs.Rooms.{held-front, held-other, held-passing}
 use Rattle.kt_resume.proofs.parts.room_behind.Goals as goal

@@ -1,7 +1,7 @@
 use Rattle.std.proofs.Common.{◌≡◌, ◌+◌, filter, take}
 use Rattle.kt_tuple.specs.Node.{is_before}
-use Rattle.kt_world.specs.declared.step.TheConstants.{MAX_NOTES}
-use Rattle.kt_world.specs.Resumed.{all_held}
+use Rattle.kt_scenario.specs.declared.step.TheConstants.{MAX_NOTES}
+use Rattle.kt_model.specs.Resumed.{all_held}
 use Rattle.kt_resume.specs.Found.{content_of}
 use Rattle.kt_resume.proofs.parts.room_behind.Given as goal
 

@@ -1,5 +1,5 @@
 use Rattle.std.proofs.Common.{◌≡◌, Some}
-use Rattle.kt_world.specs.Placing.{number_of}
+use Rattle.kt_model.specs.Placing.{number_of}
 use Rattle.kt_resume.proofs.Turned.{number-act}
 use Rattle.kt_resume.proofs.placing.place.Goals as goal
 use Rattle.kt_resume.proofs.placing.place.Goals.{in-Some, in-None}

@@ -3,9 +3,9 @@ use Rattle.std.specs.Option.{option_copied}
 use Rattle.std.proofs.lemmas.List.{take_all}
 use Rattle.kt_history.specs.declared.note.Act.{Act}
 use Rattle.kt_history.specs.Closed.{act_of}
-use Rattle.kt_history.specs.Line.{line, note_at}
+use Rattle.kt_history.specs.Log.{log, note_at}
 use Rattle.kt_resume.proofs.Senses.{AreCaused, caused-more, caused-none, caused-sense, not-sense}
-use Rattle.kt_resume.specs.inner.Sense.{CauseFits}
+use Rattle.kt_resume.specs.auxiliary.Sense.{CauseFits}
 use Rattle.kt_resume.proofs.sense.makes_sense.Goals as goal
 use Rattle.kt_resume.proofs.sense.makes_sense.Goals.{in-Some+else-not-has_cause, in_default}
 
@@ -15,7 +15,7 @@ loop-number-init c = caused-none c.args.history.now.notes
 pub loop-number-preserved : goal.loop-number-preserved
 loop-number-preserved c =
     let h = c.args.history.now.notes in
-    let xs = line h c.args.node in
+    let xs = log h c.args.node in
     let i = c.loop-number.number-index in
     let items : c.line-number-items.result.now ≡ xs = c.line-number-items.ensures in
     let lt : i < length xs = let below = c.loop-number-test.true in let long = ap (λ (l : List ℕ). length l) items in omega (arith, below, long) in
@@ -36,7 +36,7 @@ loop-number-preserved c =
 pub returns-then-not-has_cause : goal.returns-then-not-has_cause
 returns-then-not-has_cause c = λ setting first legal.
     let h = c.args.history.now.notes in
-    let xs = line h c.args.node in
+    let xs = log h c.args.node in
     let i = c.loop-number.number-index in
     let items : c.line-number-items.result.now ≡ xs = c.line-number-items.ensures in
     let lt : i < length xs = let below = c.loop-number-test.true in let long = ap (λ (l : List ℕ). length l) items in omega (arith, below, long) in
@@ -50,7 +50,7 @@ returns-then-not-has_cause c = λ setting first legal.
 pub returns : goal.returns
 returns c = λ setting first legal.
     let h = c.args.history.now.notes in
-    let xs = line h c.args.node in
+    let xs = log h c.args.node in
     let i = c.loop-number.number-index in
     let items : c.line-number-items.result.now ≡ xs = c.line-number-items.ensures in
     let past : length xs ≤ i = let over = c.loop-number-test.false in let long = ap (λ (l : List ℕ). length l) items in omega (arith, over, long) in

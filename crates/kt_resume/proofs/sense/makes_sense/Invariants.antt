@@ -1,8 +1,8 @@
 use Rattle.std.proofs.Common.{take}
-use Rattle.kt_history.specs.Line.{line}
+use Rattle.kt_history.specs.Log.{log}
 use Rattle.kt_resume.proofs.Senses.{AreCaused}
 use Rattle.kt_resume.proofs.sense.makes_sense.Given as goal
 
 -- the causes of the acts that were looked at make sense
 abbrev pub invariant-loop-number : goal.invariant-loop-number
-invariant-loop-number l = AreCaused l.history.notes (take l.number-index (line l.history.notes l.fn.node))
+invariant-loop-number l = AreCaused l.history.notes (take l.number-index (log l.history.notes l.fn.node))

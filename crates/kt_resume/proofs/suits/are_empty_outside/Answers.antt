@@ -14,7 +14,7 @@ returns-then-not-is_allowed c =
     let found : slot ≡ at empty_slot slots n = slot_at slots n slot c.loop-number-test.true c.index-slots-number.is in (
       λ h. absurd (false≢true h),
       λ all. absurd (false≢true (sym c.if-not-is_allowed.true
-          ∙ c.is_allowed.ensures.1 (λ out. ap (λ (s : Slot). s.desk) found ∙ all n out))),
+          ∙ c.is_allowed.ensures.1 (λ out. ap (λ (s : Slot). s.session) found ∙ all n out))),
     )
 
 pub loop-number-preserved : goal.loop-number-preserved

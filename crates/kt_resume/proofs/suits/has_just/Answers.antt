@@ -1,4 +1,5 @@
-use Rattle.std.proofs.Common.{◌≡◌, ◌∙◌, ◌+◌, ◌++◌, ◌<◌, ◌≤◌, ◌∷◌, [], ℕ, List, IsTrue, Contains, IsPermutation, ap, sym, subst, take, drop, length, get_or, arith, append_assoc, take-append-drop}
+use Rattle.std.proofs.Common.{◌≡◌, ◌∙◌, ◌+◌, ◌++◌, ◌<◌, ◌≤◌, ◌∷◌, [], ℕ, List, IsTrue, Contains, IsPermutation, ap, sym, subst, take, drop, length, get_or}
+use Rattle.std.proofs.Common.{arith, append_assoc, take-append-drop}
 use Rattle.std.proofs.lemmas.Bool.{false≢true}
 use Rattle.std.proofs.lemmas.List.{take_all, take_more}
 use Rattle.std.proofs.lemmas.List.Sorted.{IsPermutation-pop_more}
@@ -14,7 +15,8 @@ returns-then-not-branch c =
     let front = take i xs in
     let later = drop (i + 1) xs in
     let split : xs ≡ front ++ (u ∷ later) =
-    sym (take-append-drop (i + 1) xs) ∙ ap (λ (l : List Tuple). l ++ later) (take_more xs i u c.loop-tuple-test.true ∙ ap (λ (v : Tuple). front ++ v ∷ []) (sym c.tuple-item.is))
+    sym (take-append-drop (i + 1) xs) ∙ ap (λ (l : List Tuple). l ++ later)
+    (take_more xs i u c.loop-tuple-test.true ∙ ap (λ (v : Tuple). front ++ v ∷ []) (sym c.tuple-item.is))
     ∙ append_assoc front (u ∷ []) later in
     let gone : ¬ Contains c.loop-tuple.left.tuples u = λ there. false≢true (sym c.if-not-branch.true ∙ c.in_ok-take_equal.ensures.there.1 there) in (
       λ h. absurd (false≢true h),

@@ -1,7 +1,7 @@
 use Rattle.std.proofs.Common.{ap, arith, ◌∙◌}
 use Rattle.std.specs.Prelude.{Err}
 use Rattle.kt_tuple.specs.declared.node.NodeId.TheVariants.{Worker}
-use Rattle.kt_world.specs.declared.step.Step.TheVariants.{Issue}
+use Rattle.kt_scenario.specs.declared.step.Step.TheVariants.{Issue}
 use Rattle.kt_core.specs.Stepping.{step_counted}
 use Rattle.kt_scene.proofs.Runs.{made_next, refused_next}
 use Rattle.kt_scene.proofs.replaying.make_steps.Goals as goal

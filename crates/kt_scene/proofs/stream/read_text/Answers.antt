@@ -1,5 +1,5 @@
 use Rattle.std.proofs.Common.{◌+◌, ◌<◌, length, take, refl, sym, ◌∙◌, arith, length-take}
-use Rattle.kt_scene.specs.declared.reading.TheConstants.{MAX_TEXT}
+use Rattle.kt_text.specs.declared.reading.TheConstants.{MAX_TEXT}
 use Rattle.kt_scene.proofs.Known.{too_long}
 use Rattle.kt_scene.proofs.stream.read_text.Goals as goal
 

@@ -1,7 +1,7 @@
 use Rattle.std.proofs.Common.{◌≡◌, ◌+◌, ◌≤◌, vec_len}
 use Rattle.std.specs.Io.KnownBytes.{Consumes}
 use Rattle.kt_scene.specs.declared.source.TheConstants.{MAX_READS}
-use Rattle.kt_scene.specs.declared.reading.TheConstants.{MAX_TEXT}
+use Rattle.kt_text.specs.declared.reading.TheConstants.{MAX_TEXT}
 use Rattle.kt_scene.proofs.stream.read_text.Given as goal
 
 abbrev pub invariant-loop : goal.invariant-loop

@@ -2,7 +2,7 @@ use Rattle.std.proofs.Common.{◌≡◌, Some, [], ◌∷◌, ◌++◌, take, le
 use Rattle.std.specs.List.{slice_get}
 use Rattle.std.proofs.lemmas.Option.{slice_get_read}
 use Rattle.kt_space.specs.Holding.{Holding}
-use Rattle.kt_space.specs.inner.Slots.{filled}
+use Rattle.kt_space.specs.auxiliary.Slots.{filled}
 use Rattle.kt_space.proofs.Filled.{filled_some, filled_none}
 use Rattle.kt_space.proofs.bag.copy_of.Goals as goal
 use Rattle.kt_space.proofs.bag.copy_of.Goals.{in-Some+in_ok-copy+in_ok-reserve, in_default}

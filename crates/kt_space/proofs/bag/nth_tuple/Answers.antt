@@ -3,7 +3,7 @@ use Rattle.std.specs.List.{slice_get}
 use Rattle.std.proofs.lemmas.List.{take_all}
 use Rattle.std.proofs.lemmas.Option.{slice_get_read, slice_get_past}
 use Rattle.kt_tuple.specs.declared.tuple.Tuple.{Tuple}
-use Rattle.kt_space.specs.inner.Slots.{filled}
+use Rattle.kt_space.specs.auxiliary.Slots.{filled}
 use Rattle.kt_space.proofs.Filled.{filled_some, filled_none, tuple_at}
 use Rattle.kt_space.proofs.bag.nth_tuple.Goals as goal
 use Rattle.kt_space.proofs.bag.nth_tuple.Goals.{in-Some+else-before-eq0, in_default}

@@ -1,7 +1,7 @@
 use Rattle.std.proofs.Common.{◌≡◌, Some, [], ◌∷◌, ◌++◌, take, length, add-one, refl, sym, ap, ◌∙◌}
 use Rattle.std.specs.List.{slice_get}
 use Rattle.std.proofs.lemmas.Option.{slice_get_read}
-use Rattle.kt_space.specs.inner.Slots.{filled}
+use Rattle.kt_space.specs.auxiliary.Slots.{filled}
 use Rattle.kt_space.proofs.Filled.{filled_some, filled_none}
 use Rattle.kt_space.proofs.bag.tuples_of.Goals as goal
 use Rattle.kt_space.proofs.bag.tuples_of.Goals.{in-Some+in_ok-copy+in_ok-push, in_default}

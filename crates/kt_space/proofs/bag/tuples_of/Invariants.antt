@@ -1,5 +1,5 @@
 use Rattle.std.proofs.Common.{◌≡◌, take}
-use Rattle.kt_space.specs.inner.Slots.{filled}
+use Rattle.kt_space.specs.auxiliary.Slots.{filled}
 use Rattle.kt_space.proofs.bag.tuples_of.Given as goal
 
 abbrev pub invariant-loop-slot : goal.invariant-loop-slot

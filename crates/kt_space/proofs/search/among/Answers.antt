@@ -1,5 +1,5 @@
 use Rattle.std.proofs.Common.{◌<◌, ◌+◌, Some, length, refl, sym, subst, ◌∙◌, arith, rules}
-use Rattle.kt_space.specs.inner.Slots.{IsPassed}
+use Rattle.kt_space.specs.auxiliary.Slots.{IsPassed}
 use Rattle.kt_space.proofs.Searched.{to_come, started, passed_match, passed_other, counted_here, counts_slots, falls}
 use Rattle.kt_space.proofs.search.among.Goals as goal
 use Rattle.kt_space.proofs.search.among.Goals.{then-fits+else-left-eq0, else-fits}

@@ -1,5 +1,5 @@
 use Rattle.std.proofs.Common.{length}
-use Rattle.kt_space.specs.inner.Slots.{IsPassed}
+use Rattle.kt_space.specs.auxiliary.Slots.{IsPassed}
 use Rattle.kt_space.proofs.Searched.{to_come}
 use Rattle.kt_space.proofs.search.among.Given as goal
 

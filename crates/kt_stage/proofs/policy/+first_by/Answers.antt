@@ -1,6 +1,6 @@
 use Rattle.std.proofs.Common.{rules, subst, ◌≡◌, Ok}
 use Rattle.std.specs.Prelude.{Option}
-use Rattle.kt_world.specs.declared.step.Step.{Step}
+use Rattle.kt_scenario.specs.declared.step.Step.{Step}
 use Rattle.kt_stage.specs.Asking.{IsAsked}
 use Rattle.kt_stage.specs.Policy.{by_rule}
 use Rattle.kt_stage.proofs.Asked.{first_later}

@@ -1,7 +1,7 @@
 use Rattle.std.proofs.Common.{◌≡◌, rules, subst, Ok}
 use Rattle.std.specs.Prelude.{Option, IfOk, IfSome, IsTrue}
-use Rattle.kt_world.specs.declared.step.Step.{Step}
-use Rattle.kt_world.specs.State.{State}
+use Rattle.kt_scenario.specs.declared.step.Step.{Step}
+use Rattle.kt_model.specs.State.{State}
 use Rattle.kt_core.specs.Lent.{is_allowed}
 use Rattle.kt_stage.specs.Asking.{IsAsked}
 use Rattle.kt_stage.specs.Policy.{next_step}

@@ -1,9 +1,10 @@
 use Rattle.std.proofs.Common.{rules, [], ◌∷◌, ◌++◌, Option, None, Some, refl, sym, subst, ◌∙◌}
 use Rattle.std.specs.Prelude.{IfSome, IsTrue}
-use Rattle.kt_world.specs.declared.step.Step.{Step}
-use Rattle.kt_world.specs.State.{State}
+use Rattle.kt_scenario.specs.declared.step.Step.{Step}
+use Rattle.kt_model.specs.State.{State}
 use Rattle.kt_core.specs.Lent.{is_allowed}
-use Rattle.kt_stage.proofs.Settled.{asked-cause, asked_counted, asked_next, fewer_left, held_at, not_over, refused_counted, settles_more, settles_none, settles_stays, step-cause}
+use Rattle.kt_stage.proofs.Settled.{asked-cause, asked_counted, asked_next, fewer_left, held_at, not_over, refused_counted, settles_more, settles_none}
+use Rattle.kt_stage.proofs.Settled.{settles_stays, step-cause}
 use Rattle.kt_stage.proofs.settling.settle.Goals as goal
 
 pub loop-step-init : goal.loop-step-init

@@ -1,8 +1,8 @@
 use Rattle.std.proofs.Common.{◌≡◌, List, ◌-◌}
 use Rattle.std.specs.Prelude.{IsTrue}
 use Rattle.kt_store.specs.Calls.{NeverFails}
-use Rattle.kt_world.specs.declared.step.TheConstants.{MAX_STEPS}
-use Rattle.kt_world.specs.declared.step.Step.{Step}
+use Rattle.kt_scenario.specs.declared.step.TheConstants.{MAX_STEPS}
+use Rattle.kt_scenario.specs.declared.step.Step.{Step}
 use Rattle.kt_stage.specs.Settling.{Settles}
 use Rattle.kt_stage.proofs.settling.settle.Given as goal
 

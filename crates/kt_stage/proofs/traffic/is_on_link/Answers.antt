@@ -1,5 +1,5 @@
 use Rattle.std.proofs.Common.{sym, ◌∙◌, arith}
-use Rattle.kt_world.specs.State.{link}
+use Rattle.kt_model.specs.State.{link}
 use Rattle.kt_stage.specs.Traffic.{is_sought}
 use Rattle.kt_stage.proofs.Finding.{found_here, none_at_all, none_so_far}
 use Rattle.kt_stage.proofs.traffic.is_on_link.Goals as goal

@@ -1,6 +1,6 @@
 use Rattle.std.proofs.Common.{◌≡◌, false, take}
 use Rattle.std.specs.List.{list_any}
-use Rattle.kt_world.specs.State.{link}
+use Rattle.kt_model.specs.State.{link}
 use Rattle.kt_stage.specs.Traffic.{is_sought}
 use Rattle.kt_stage.proofs.traffic.is_on_link.Given as goal
 

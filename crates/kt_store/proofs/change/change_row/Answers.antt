@@ -5,7 +5,7 @@ use Rattle.kt_tuple.specs.Node.{node_eq}
 use Rattle.kt_store.specs.declared.rows.NodeRow.{NodeRow}
 use Rattle.kt_store.specs.Content.{opening_row, row_or}
 use Rattle.kt_store.specs.Changes.{with_row}
-use Rattle.kt_store.specs.inner.Row.{changed}
+use Rattle.kt_store.specs.auxiliary.Row.{changed}
 use Rattle.kt_store.proofs.Nodes.{changed_there, nodes_either, same_node, still_nodes}
 use Rattle.kt_store.proofs.Tables.{position_found, position_none}
 use Rattle.kt_store.proofs.change.change_row.Goals as goal

@@ -1,6 +1,6 @@
 use Rattle.std.proofs.Common.{◌≡◌, ◌-◌, length}
 use Rattle.kt_tuple.specs.Parsing.{places_from}
-use Rattle.kt_tuple.specs.inner.Findings.{found_with, found_in}
+use Rattle.kt_tuple.specs.auxiliary.Findings.{found_with, found_in}
 use Rattle.kt_tuple.proofs.parsing.found_in.Given as goal
 
 abbrev pub invariant-loop-i : goal.invariant-loop-i

@@ -1,6 +1,6 @@
 use Rattle.std.proofs.Common.{◌≡◌, ◌-◌, ◌++◌}
 use Rattle.kt_tuple.specs.declared.tuple.TheConstants.{MAX_PLACES}
-use Rattle.kt_tuple.specs.inner.Making.{made_from, made_in}
+use Rattle.kt_tuple.specs.auxiliary.Making.{made_from, made_in}
 use Rattle.kt_tuple.proofs.parsing.items_in.Given as goal
 
 abbrev pub invariant-loop : goal.invariant-loop

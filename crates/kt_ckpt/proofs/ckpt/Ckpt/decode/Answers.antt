@@ -1,3 +1,4 @@
+-- Of `Ckpt::decode` in src/decode.rt.
 use Rattle.std.proofs.Common.{ap, subst, ◌∙◌, arith}
 use Rattle.kt_ckpt.specs.Reading.{Gives}
 use Rattle.kt_ckpt.specs.Checkpoint.{Checkpoint, read}

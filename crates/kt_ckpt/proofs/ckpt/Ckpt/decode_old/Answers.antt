@@ -1,3 +1,4 @@
+-- Of `Ckpt::decode_old` in src/old.rt.
 use Rattle.std.proofs.Common.{ap, subst, sym, ◌∙◌, arith}
 use Rattle.kt_ckpt.specs.Reading.{Gives}
 use Rattle.kt_ckpt.specs.Checkpoint.{Checkpoint}

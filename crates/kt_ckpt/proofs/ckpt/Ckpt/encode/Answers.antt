@@ -1,3 +1,4 @@
+-- Of `Ckpt::encode` in src/encode.rt.
 use Rattle.std.proofs.Common.{rules}
 use Rattle.kt_ckpt.proofs.Checkpoints.{is_read_back}
 use Rattle.kt_ckpt.proofs.ckpt.Ckpt.encode.Goals as goal

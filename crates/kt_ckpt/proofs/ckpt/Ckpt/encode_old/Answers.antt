@@ -1,3 +1,4 @@
+-- Of `Ckpt::encode_old` in src/old.rt.
 use Rattle.std.proofs.Common.{◌≡◌, ap, rules, ◌∙◌}
 use Rattle.kt_ckpt.specs.Old.{IsOldCheckpoint, read_old, spelling_old}
 use Rattle.kt_ckpt.proofs.OldCheckpoints.{old_read_again}

@@ -3,7 +3,7 @@ use Rattle.kt_history.specs.declared.note.Note.{Note}
 use Rattle.kt_history.specs.Chronicle.{Chronicle}
 use Rattle.kt_history.specs.WellFormed.{MayFollow}
 use Rattle.kt_history.proofs.Shared.{CausesComeFirst-push}
-use Rattle.kt_ckpt.specs.inner.Gathered.{IsPast}
+use Rattle.kt_ckpt.specs.auxiliary.Gathered.{IsPast}
 use Rattle.kt_ckpt.proofs.Gatherings.{gathered-noted}
 use Rattle.kt_ckpt.proofs.past.Past.add.Goals as goal
 

@@ -3,9 +3,9 @@ use Rattle.std.specs.Prelude.{List}
 use Rattle.std.specs.List.{AllByRecursion}
 use Rattle.kt_tuple.specs.declared.node.NodeId.{NodeId}
 use Rattle.kt_link.specs.Network.{AreNeighbours, room}
-use Rattle.kt_node.specs.declared.message.Message.{Message}
-use Rattle.kt_world.specs.Step.{owner}
-use Rattle.kt_world.proofs.Shared.{all-through}
+use Rattle.kt_state.specs.declared.message.Message.{Message}
+use Rattle.kt_scenario.specs.Step.{owner}
+use Rattle.kt_model.proofs.Shared.{all-through}
 use Rattle.kt_core.proofs.Traffics.{wired}
 use Rattle.kt_core.proofs.machine.Machine.carry_out.Goals as goal
 

@@ -1,10 +1,11 @@
+-- Of `Machine::carry_out_short` in src/short_plans.rt.
 use Rattle.std.proofs.Common.{◌≤◌, subst, sym, ◌∙◌, arith}
 use Rattle.std.specs.Prelude.{IfSome}
 use Rattle.kt_tuple.specs.declared.node.NodeId.{NodeId}
 use Rattle.kt_link.specs.Network.{AreNeighbours, room}
-use Rattle.kt_node.specs.declared.message.Message.{Message}
+use Rattle.kt_state.specs.declared.message.Message.{Message}
 use Rattle.kt_node.specs.ShortPlan.{plan_of}
-use Rattle.kt_world.specs.Step.{owner}
+use Rattle.kt_scenario.specs.Step.{owner}
 use Rattle.kt_core.proofs.AtOnce.{has-room, if-listed, through-some}
 use Rattle.kt_core.proofs.Traffics.{wired}
 use Rattle.kt_core.proofs.machine.Machine.carry_out_short.Goals as goal

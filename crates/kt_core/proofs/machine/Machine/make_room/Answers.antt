@@ -3,9 +3,9 @@ use Rattle.std.specs.Prelude.{List, None}
 use Rattle.std.specs.List.{AllByRecursion}
 use Rattle.kt_tuple.specs.declared.node.NodeId.{NodeId}
 use Rattle.kt_link.specs.Network.{AreNeighbours, room}
-use Rattle.kt_node.specs.declared.message.Message.{Message}
+use Rattle.kt_state.specs.declared.message.Message.{Message}
 use Rattle.kt_shard.specs.Table.{at}
-use Rattle.kt_core.specs.inner.Rows.{HasRoom}
+use Rattle.kt_core.specs.auxiliary.Rows.{HasRoom}
 use Rattle.kt_core.proofs.Outcomes.{on_ok-map}
 use Rattle.kt_core.proofs.Readiness.{rows_there}
 use Rattle.kt_core.proofs.Traffics.{wired}

@@ -1,11 +1,12 @@
+-- Of `Machine::make_room_for_short` in src/short_plans.rt.
 use Rattle.std.proofs.Common.{subst}
 use Rattle.std.specs.Prelude.{None}
 use Rattle.kt_tuple.specs.declared.node.NodeId.{NodeId}
 use Rattle.kt_link.specs.Network.{AreNeighbours, room}
-use Rattle.kt_node.specs.declared.message.Message.{Message}
+use Rattle.kt_state.specs.declared.message.Message.{Message}
 use Rattle.kt_node.specs.ShortPlan.{plan_of}
 use Rattle.kt_shard.specs.Table.{at}
-use Rattle.kt_core.specs.inner.Rows.{HasRoom}
+use Rattle.kt_core.specs.auxiliary.Rows.{HasRoom}
 use Rattle.kt_core.proofs.AtOnce.{if-listed, roomy}
 use Rattle.kt_core.proofs.Outcomes.{on_ok-map}
 use Rattle.kt_core.proofs.Readiness.{rows_there}

@@ -1,11 +1,12 @@
+-- Of `Machine::make_short` in src/short_plans.rt.
 use Rattle.std.proofs.Common.{◌∙◌, ap, subst, sym}
 use Rattle.kt_node.specs.ShortPlan.{plan_of}
 use Rattle.kt_store.specs.Content.{empty_content}
-use Rattle.kt_world.specs.Effect.{applied}
-use Rattle.kt_world.specs.inner.Ready.{CanApply, IsReady}
-use Rattle.kt_world.specs.State.{State}
-use Rattle.kt_world.specs.Step.{owner}
-use Rattle.kt_core.specs.inner.Machine.{state_of, HasRoomFor}
+use Rattle.kt_model.specs.Effect.{applied}
+use Rattle.kt_model.specs.auxiliary.Ready.{CanApply, IsReady}
+use Rattle.kt_model.specs.State.{State}
+use Rattle.kt_scenario.specs.Step.{owner}
+use Rattle.kt_core.specs.auxiliary.Machine.{state_of, HasRoomFor}
 use Rattle.kt_core.proofs.machine.Machine.make_short.Goals as goal
 
 pub make_room_for_short-requires-clause-can : goal.make_room_for_short-requires-clause-can

@@ -1,9 +1,10 @@
+-- Of `Machine::repeat_at_once` in src/at_once.rt.
 use Rattle.std.proofs.Common.{subst, sym}
 use Rattle.kt_node.specs.AtOnce.{again_plan, said_plan}
 use Rattle.kt_store.specs.Content.{empty_content}
-use Rattle.kt_world.specs.declared.step.Step.TheVariants as steps
-use Rattle.kt_world.specs.inner.Ready.{IsReady}
-use Rattle.kt_world.specs.State.{State}
+use Rattle.kt_scenario.specs.declared.step.Step.TheVariants as steps
+use Rattle.kt_model.specs.auxiliary.Ready.{IsReady}
+use Rattle.kt_model.specs.State.{State}
 use Rattle.kt_core.proofs.AtOnce.{can-at-once, enabled-at-once, made-at-once, ready-at-once}
 use Rattle.kt_core.proofs.machine.Machine.repeat_at_once.Goals as goal
 

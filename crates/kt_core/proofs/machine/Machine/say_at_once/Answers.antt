@@ -1,10 +1,11 @@
+-- Of `Machine::say_at_once` in src/at_once.rt.
 use Rattle.std.proofs.Common.{◌∙◌, ap, subst, sym}
 use Rattle.kt_node.specs.AtOnce.{said_plan}
 use Rattle.kt_store.specs.Content.{empty_content}
-use Rattle.kt_world.specs.declared.step.Step.TheVariants as steps
-use Rattle.kt_world.specs.Effect.{applied}
-use Rattle.kt_world.specs.inner.Ready.{CanApply, IsReady}
-use Rattle.kt_world.specs.State.{State}
+use Rattle.kt_scenario.specs.declared.step.Step.TheVariants as steps
+use Rattle.kt_model.specs.Effect.{applied}
+use Rattle.kt_model.specs.auxiliary.Ready.{CanApply, IsReady}
+use Rattle.kt_model.specs.State.{State}
 use Rattle.kt_core.proofs.machine.Machine.say_at_once.Goals as goal
 
 pub say-requires-clause-ready : goal.say-requires-clause-ready

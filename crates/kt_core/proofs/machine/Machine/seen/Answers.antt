@@ -1,5 +1,6 @@
+-- Of `Machine::seen` in src/planning.rt.
 use Rattle.kt_core.proofs.Seen.{acts-of, saves-of}
-use Rattle.kt_core.specs.inner.Machine.{state_of}
+use Rattle.kt_core.specs.auxiliary.Machine.{state_of}
 use Rattle.kt_store.specs.Content.{empty_content}
 use Rattle.kt_node.specs.View.{view_of}
 use Rattle.kt_core.proofs.machine.Machine.seen.Goals as goal

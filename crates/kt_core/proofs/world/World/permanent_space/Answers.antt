@@ -1,11 +1,11 @@
 use Rattle.std.proofs.Common.{subst}
 use Rattle.std.specs.Prelude.{IsTrue}
-use Rattle.kt_world.specs.Headline.{Headline}
-use Rattle.kt_core.specs.World.{Standing}
+use Rattle.kt_model.specs.Headline.{Headline}
+use Rattle.kt_core.specs.World.{WorldModel}
 use Rattle.kt_refinement.proofs.Shared.{headline-reached}
 use Rattle.kt_core.proofs.world.World.permanent_space.Goals as goal
 
 pub returns-clause-headline : goal.returns-clause-headline
 returns-clause-headline g c =
-    let P : Standing → Type 0 = λ old. IsTrue (g.S.CkptStore.is_honest c.permanent_tuples.new.store) → Headline old.state in
+    let P : WorldModel → Type 0 = λ old. IsTrue (g.S.CkptStore.is_honest c.permanent_tuples.new.store) → Headline old.state in
     subst P c.self.view_is (λ h. headline-reached _ (c.self.invariant.reached (c.permanent_tuples.ensures.honest h)))

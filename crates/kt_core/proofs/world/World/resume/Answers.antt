@@ -1,3 +1,4 @@
+-- Of `World::resume` in src/resuming.rt.
 use Rattle.kt_core.proofs.world.World.resume.Goals as goal
 
 pub returns-in-Err-clause-unfit : goal.returns-in-Err-clause-unfit

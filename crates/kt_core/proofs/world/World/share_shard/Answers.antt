@@ -1,7 +1,7 @@
 use Rattle.std.proofs.Common.{subst, sym, ap, ◌∙◌}
-use Rattle.kt_world.specs.State.{State}
-use Rattle.kt_core.specs.World.{Standing}
-use Rattle.kt_core.specs.inner.Kept.{IsWorld}
+use Rattle.kt_model.specs.State.{State}
+use Rattle.kt_core.specs.World.{WorldModel}
+use Rattle.kt_core.specs.auxiliary.Kept.{IsWorld}
 use Rattle.kt_core.proofs.world.World.share_shard.Goals as goal
 
 pub invariant_of-self : goal.invariant_of-self
@@ -11,7 +11,7 @@ invariant_of-self g c =
 
 pub returns-clause-same : goal.returns-clause-same
 returns-clause-same g c =
-    let with_state : State → Standing = λ s. record {
+    let with_state : State → WorldModel = λ s. record {
       state = s;
       is_honest = g.S.CkptStore.is_honest c.self.inside.store;
       counts = g.S.CkptStore.counts c.self.inside.store;

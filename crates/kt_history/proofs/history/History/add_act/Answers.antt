@@ -1,7 +1,7 @@
 use Rattle.std.proofs.Common.{◌≡◌, ◌+◌, ℕ, List, ap, ◌∙◌, length, suc, arith, refl}
 use Rattle.kt_history.specs.declared.note.Note.TheVariants as notes
-use Rattle.kt_history.specs.Line.{last_of, line}
-use Rattle.kt_history.specs.inner.Marks.{act_mark}
+use Rattle.kt_history.specs.Log.{last_of, log}
+use Rattle.kt_history.specs.auxiliary.Marks.{act_mark}
 use Rattle.kt_history.proofs.Room.{shown_notes, HasPlace, HasPlace-of}
 use Rattle.kt_history.proofs.Changes.{last_of-within, cause_within}
 use Rattle.kt_history.proofs.Keeping.{Agrees-at, Agrees-row, MayFollow-at}
@@ -9,11 +9,11 @@ use Rattle.kt_history.proofs.KeepingActs.{Agrees-pushed_act}
 use Rattle.kt_history.proofs.Counts.{lost_with_room}
 use Rattle.kt_history.proofs.history.History.add_act.Goals as goal
 
-has_place : (c : goal.After-deref-3) → HasPlace c.self.inside.notes c.self.inside.marks c.self.inside.lines.items c.index-place.result
-has_place c = HasPlace-of c.self.inside.notes c.self.inside.marks c.self.inside.lines.items c.args.self.now c.args.act.node c.index-place.result c.self.view_is
+has_place : (c : goal.After-deref-3) → HasPlace c.self.inside.notes c.self.inside.marks c.self.inside.logs.items c.index-place.result
+has_place c = HasPlace-of c.self.inside.notes c.self.inside.marks c.self.inside.logs.items c.args.self.now c.args.act.node c.index-place.result c.self.view_is
     c.index-place.ensures.value c.requires.room
 
-is_previous : (c : goal.After-deref-3) → c.last_number-previous.result ≡ last_of (line c.self.inside.notes.items c.args.act.node)
+is_previous : (c : goal.After-deref-3) → c.last_number-previous.result ≡ last_of (log c.self.inside.notes.items c.args.act.node)
 is_previous c =
     c.last_number-previous.ensures
     ∙ ap last_of (c.deref.ensures.value ∙ Agrees-row _ _ _ _ _ c.self.invariant
@@ -39,7 +39,7 @@ invariant_of-self c =
     let may = MayFollow-at _ _ (notes.Act c.args.act) (shown_notes c.self.view_is) c.requires.follows in
     let is_number : c.len.result + 1 ≡ suc (length h) = omega (arith, c.len.ensures, c.self.inside.notes.ok.0) in
     let within =
-    (HasPlace-of c.self.inside.notes c.self.inside.marks c.self.inside.lines.items c.args.self.now c.args.act.node c.index-place.result c.self.view_is
+    (HasPlace-of c.self.inside.notes c.self.inside.marks c.self.inside.logs.items c.args.self.now c.args.act.node c.index-place.result c.self.view_is
     c.index-place.ensures.value c.requires.room).within in
     let previous_is =
     c.last_number-previous.ensures ∙ ap last_of (c.deref.ensures.value ∙ Agrees-row _ _ _ _ _ c.self.invariant
@@ -52,7 +52,7 @@ invariant_of-self c =
     refl
     c.push_reserved.ensures.items
     c.lost_with-self-inside.ensures
-    (Agrees-pushed_act h c.self.inside.lines.items c.self.inside.lines.items c.self.inside.marks.items c.self.inside.lost c.args.act c.self.invariant may
+    (Agrees-pushed_act h c.self.inside.logs.items c.self.inside.logs.items c.self.inside.marks.items c.self.inside.lost c.args.act c.self.invariant may
     (λ i. refl) c.index-place.result (c.len.result + 1) c.last_number-previous.result c.next_place-spot.result
     c.act_mark-mark.result c.append.new.rows.items c.index-place.ensures.value
     within is_number previous_is spot_is (c.act_mark-mark.ensures
@@ -61,5 +61,5 @@ invariant_of-self c =
 
 pub push_reserved-requires : goal.push_reserved-requires
 push_reserved-requires c =
-    (HasPlace-of c.self.inside.notes c.self.inside.marks c.self.inside.lines.items c.args.self.now c.args.act.node c.index-place.result c.self.view_is
+    (HasPlace-of c.self.inside.notes c.self.inside.marks c.self.inside.logs.items c.args.self.now c.args.act.node c.index-place.result c.self.view_is
     c.index-place.ensures.value c.requires.room).marks

@@ -1,7 +1,7 @@
 use Rattle.std.proofs.Common.{◌≡◌, ◌++◌, ◌∷◌, [], ap, ◌∙◌, length, arith, refl}
 use Rattle.std.proofs.lemmas.List.{take_at}
 use Rattle.kt_history.specs.declared.note.Note.TheVariants as notes
-use Rattle.kt_history.specs.inner.Marks.{no_mark}
+use Rattle.kt_history.specs.auxiliary.Marks.{no_mark}
 use Rattle.kt_history.proofs.Room.{shown_notes, HasPlace-of}
 use Rattle.kt_history.proofs.Keeping.{Agrees-at, Agrees-marks_of, AreMarksOf-at, MayFollow-at}
 use Rattle.kt_history.proofs.KeepingCuts.{AreLost-at, behind-is, Agrees-pushed_cut}
@@ -20,12 +20,12 @@ lose-self-inside-requires-clause-numbers c = λ some.
 
 pub push_reserved-requires : goal.push_reserved-requires
 push_reserved-requires c =
-    (HasPlace-of c.self.inside.notes c.self.inside.marks c.self.inside.lines.items c.args.self.now c.args.node c.index-place.result c.self.view_is
+    (HasPlace-of c.self.inside.notes c.self.inside.marks c.self.inside.logs.items c.args.self.now c.args.node c.index-place.result c.self.view_is
     c.index-place.ensures.value c.requires.room).marks
 
 pub push_reserved-requires-2 : goal.push_reserved-requires-2
 push_reserved-requires-2 c =
-    (HasPlace-of c.self.inside.notes c.self.inside.marks c.self.inside.lines.items c.args.self.now c.args.node c.index-place.result c.self.view_is
+    (HasPlace-of c.self.inside.notes c.self.inside.marks c.self.inside.logs.items c.args.self.now c.args.node c.index-place.result c.self.view_is
     c.index-place.ensures.value c.requires.room).notes
 
 pub invariant_of-self : goal.invariant_of-self

@@ -3,7 +3,7 @@ use Rattle.std.specs.declared.vec.Vec.{Vec}
 use Rattle.std.specs.declared.alloc.Global.{Global}
 use Rattle.kt_history.specs.declared.note.Note.{Note}
 use Rattle.kt_history.specs.declared.mark.Mark.{Mark}
-use Rattle.kt_history.specs.inner.Marks.{Agrees, rows_of}
+use Rattle.kt_history.specs.auxiliary.Marks.{Agrees, rows_of}
 use Rattle.kt_history.proofs.Keeping.{Agrees-empty}
 use Rattle.kt_history.proofs.history.History.new.Goals as goal
 

@@ -4,7 +4,7 @@ use Rattle.std.proofs.lemmas.List.{get_or_default}
 use Rattle.kt_history.specs.declared.mark.Mark.{Mark}
 use Rattle.kt_history.specs.declared.note.Note.{Note}
 use Rattle.kt_history.specs.Survival.{Survives}
-use Rattle.kt_history.specs.inner.Marks.{no_mark}
+use Rattle.kt_history.specs.auxiliary.Marks.{no_mark}
 use Rattle.kt_history.proofs.Room.{shown_notes}
 use Rattle.kt_history.proofs.Keeping.{survives-answer, survives-none}
 use Rattle.kt_history.proofs.history.History.survives.Goals as goal

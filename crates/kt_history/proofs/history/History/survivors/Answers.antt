@@ -3,7 +3,7 @@ use Rattle.std.specs.Option.{option_to_list}
 use Rattle.std.proofs.lemmas.List.{take_all, get_or_default}
 use Rattle.kt_history.specs.declared.mark.Mark.{Mark}
 use Rattle.kt_history.specs.Survival.{services, survives, services_of, marked_acts, marked_from, note_service}
-use Rattle.kt_history.specs.inner.Marks.{no_mark}
+use Rattle.kt_history.specs.auxiliary.Marks.{no_mark}
 use Rattle.kt_history.proofs.Room.{shown_notes}
 use Rattle.kt_history.proofs.Survivors.{AreSurvivors-from}
 use Rattle.kt_history.proofs.Counts.{services-more}

@@ -5,12 +5,12 @@ use Rattle.kt_tuple.specs.declared.op.Answer.{Answer}
 use Rattle.kt_tuple.specs.Space.{SpaceStep}
 use Rattle.kt_history.specs.declared.note.What.{What}
 use Rattle.kt_history.specs.declared.note.What.TheVariants as whats
-use Rattle.kt_lines.specs.Bag.{served_bag}
-use Rattle.kt_lines.specs.ShardLine.{bag_after, request_of, shard_after}
-use Rattle.kt_shard.specs.Limits.{desks}
+use Rattle.kt_logs.specs.Bag.{served_bag}
+use Rattle.kt_logs.specs.ShardLog.{bag_after, request_of, shard_after}
+use Rattle.kt_shard.specs.Limits.{sessions}
 use Rattle.kt_shard.specs.Table.{at}
 use Rattle.kt_resume.specs.Remade.{IsRemade, RemadeShard, Slot, empty_slot}
-use Rattle.kt_resume.specs.inner.Slots.{slot_after}
+use Rattle.kt_resume.specs.auxiliary.Slots.{slot_after}
 use Rattle.kt_resume.proofs.Remakes.{allows, answered, answers, makes_where, remade_after, slot_found}
 use Rattle.kt_resume.proofs.shard.Remade.makes.Goals as goal
 
@@ -25,13 +25,14 @@ returns-in_ok-may-in-Served-clause-may c = λ made like may.
     sym (c.shard_of.ensures ∙ ap (λ n. n % c.args.shards + 1) c.signature.ensures) ∙ c.if-shard_of-name.false in
     let slots : c.self.inside.slots.items ≡ r.slots = ap (λ (x : RemadeShard). x.slots) c.self.view_is in
     let is : slot ≡ at empty_slot r.slots a.worker =
-    slot_found r.slots c.self.inside.slots.items a.worker c.from-worker.result desks slot slots c.self.invariant c.from-worker.ensures
-    c.if-act-ge-DESKS.false c.index_mut-in-Served.ensures.value in
+    slot_found r.slots c.self.inside.slots.items a.worker c.from-worker.result sessions slot slots c.self.invariant c.from-worker.ensures
+    c.if-act-ge-SESSIONS.false c.index_mut-in-Served.ensures.value in
     let bags : c.self.inside.bag.tuples ≡ r.bag = ap (λ (x : RemadeShard). x.bag) c.self.view_is in
     let step : SpaceStep c.self.inside.bag.tuples a.op told c.answer.new.bag.tuples = c.in_ok-may-in-Served.ensures.step may in
-    let mine = answered made.bag r.bag c.answer.new.bag.tuples a.op told like.bag (subst (λ (l : List Tuple). SpaceStep l a.op told c.answer.new.bag.tuples) bags step) in
-    let desk : (slot.desk.waiting ≡ Some (request_of a)) × (a.by ≡ slot.cause) = c.in_ok-serve-in-Served.ensures.may.0 c.if-not-branch.false in
-    makes_where c.args.shards c.args.name made r a (whats.Served told) slot like is what home (desk.0, desk.1, mine.0)
+    let mine = answered made.bag r.bag c.answer.new.bag.tuples a.op told like.bag
+    (subst (λ (l : List Tuple). SpaceStep l a.op told c.answer.new.bag.tuples) bags step) in
+    let session : (slot.session.waiting ≡ Some (request_of a)) × (a.by ≡ slot.cause) = c.in_ok-serve-in-Served.ensures.may.0 c.if-not-branch.false in
+    makes_where c.args.shards c.args.name made r a (whats.Served told) slot like is what home (session.0, session.1, mine.0)
 
 pub returns-in_ok-may-in-Served-clause-all : goal.returns-in_ok-may-in-Served-clause-all
 returns-in_ok-may-in-Served-clause-all c = λ made like lt makes.
@@ -42,8 +43,8 @@ returns-in_ok-may-in-Served-clause-all c = λ made like lt makes.
     let slot = c.index_mut-in-Served.result.now in
     let slots : c.self.inside.slots.items ≡ r.slots = ap (λ (x : RemadeShard). x.slots) c.self.view_is in
     let is : slot ≡ at empty_slot r.slots a.worker =
-    slot_found r.slots c.self.inside.slots.items a.worker c.from-worker.result desks slot slots c.self.invariant c.from-worker.ensures
-    c.if-act-ge-DESKS.false c.index_mut-in-Served.ensures.value in
+    slot_found r.slots c.self.inside.slots.items a.worker c.from-worker.result sessions slot slots c.self.invariant c.from-worker.ensures
+    c.if-act-ge-SESSIONS.false c.index_mut-in-Served.ensures.value in
     let bags : c.self.inside.bag.tuples ≡ r.bag = ap (λ (x : RemadeShard). x.bag) c.self.view_is in
     let may = allows c.args.shards c.args.name made r a (whats.Served told) slot like is what makes in
     let mine = answers made.bag r.bag a.op told like.bag may.2 in
@@ -59,10 +60,10 @@ returns-in_ok-may-in-Served-clause-after c = λ made like may.
     let what : a.what ≡ whats.Served told = c.in-Served.is in
     let slot = c.index_mut-in-Served.result.now in
     let slots : c.self.inside.slots.items ≡ r.slots = ap (λ (x : RemadeShard). x.slots) c.self.view_is in
-    let long : length c.self.inside.slots.items ≡ desks = c.self.invariant in
-    let lt : a.worker < length r.slots = subst (λ k. a.worker < k) (sym long ∙ ap (λ (l : List Slot). length l) slots) c.if-act-ge-DESKS.false in
+    let long : length c.self.inside.slots.items ≡ sessions = c.self.invariant in
+    let lt : a.worker < length r.slots = subst (λ k. a.worker < k) (sym long ∙ ap (λ (l : List Slot). length l) slots) c.if-act-ge-SESSIONS.false in
     let is : slot ≡ at empty_slot r.slots a.worker =
-    slot_found r.slots c.self.inside.slots.items a.worker c.from-worker.result desks slot slots long c.from-worker.ensures c.if-act-ge-DESKS.false
+    slot_found r.slots c.self.inside.slots.items a.worker c.from-worker.result sessions slot slots long c.from-worker.ensures c.if-act-ge-SESSIONS.false
     c.index_mut-in-Served.ensures.value in
     let bags : c.self.inside.bag.tuples ≡ r.bag = ap (λ (x : RemadeShard). x.bag) c.self.view_is in
     let new = c.answer.new.bag.tuples in
@@ -73,5 +74,6 @@ returns-in_ok-may-in-Served-clause-after c = λ made like may.
     let bag : IsPermutation (bag_after made.bag a a.what) new = subst (λ (w : What). IsPermutation (bag_after made.bag a w) new) (sym what) mine.1 in
     let done = remade_after made r a slot c.serve.new.self new like lt is after bag in
     let items : set r.slots a.worker c.serve.new.self ≡ set c.self.inside.slots.items c.from-worker.result c.serve.new.self =
-    ap (λ (l : List Slot). set l a.worker c.serve.new.self) (sym slots) ∙ ap (λ k. set c.self.inside.slots.items k c.serve.new.self) (sym c.from-worker.ensures) in
+    ap (λ (l : List Slot). set l a.worker c.serve.new.self) (sym slots)
+    ∙ ap (λ k. set c.self.inside.slots.items k c.serve.new.self) (sym c.from-worker.ensures) in
     subst (λ (l : List Slot). IsRemade (shard_after made a) (record { bag = new; slots = l })) items done

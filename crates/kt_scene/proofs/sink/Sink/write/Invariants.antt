@@ -1,3 +1,4 @@
+-- Before each turn nothing has been written: the writer has what it had at the call.
 use Rattle.std.proofs.Common.{◌≡◌}
 use Rattle.std.specs.Io.KnownBytes.{Keeps}
 use Rattle.kt_scene.specs.declared.source.Outcome.TheVariants.{Failed}

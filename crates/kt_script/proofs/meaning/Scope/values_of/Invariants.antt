@@ -1,6 +1,6 @@
 use Rattle.std.proofs.Common.{◌≡◌, take, map}
 use Rattle.kt_script.specs.Meaning.{value_of_actual}
-use Rattle.kt_script.specs.inner.Scope.{meaning_in}
+use Rattle.kt_script.specs.auxiliary.Scope.{meaning_in}
 use Rattle.kt_script.proofs.meaning.Scope.values_of.Given as goal
 
 abbrev pub invariant-loop-actual : goal.invariant-loop-actual

@@ -1,6 +1,6 @@
 use Rattle.std.proofs.Common.{drop, sym, ap, ◌∙◌}
 use Rattle.std.specs.Prelude.{is_some}
-use Rattle.kt_script.specs.inner.Left.{has_next_from}
+use Rattle.kt_script.specs.auxiliary.Left.{has_next_from}
 use Rattle.kt_script.specs.Next.{next_at}
 use Rattle.kt_script.specs.Variables.{variables_of}
 use Rattle.kt_script.proofs.Remains.{is_some-next_from, is_some-op_of_next}

@@ -1,7 +1,7 @@
 use Rattle.std.proofs.Common.{◌≡◌, length, ap, ◌∙◌, rules}
 use Rattle.kt_space.specs.Holding.{Holding}
 use Rattle.kt_space.specs.Picking.{matching}
-use Rattle.kt_space.specs.inner.Slots.{filled}
+use Rattle.kt_space.specs.auxiliary.Slots.{filled}
 use Rattle.kt_space.proofs.Bags.{counted}
 use Rattle.kt_space.proofs.bag.Bag.count_matches.Goals as goal
 

@@ -3,7 +3,7 @@ use Rattle.std.specs.List.{slice_get}
 use Rattle.std.specs.Option.{option_and_then}
 use Rattle.kt_space.specs.Holding.{Holding}
 use Rattle.kt_space.specs.Picking.{could_match, matching, up_to_match}
-use Rattle.kt_space.specs.inner.Slots.{filled}
+use Rattle.kt_space.specs.auxiliary.Slots.{filled}
 use Rattle.kt_space.proofs.Bags.{match_found, searched, searched_at_most}
 use Rattle.kt_space.proofs.bag.Bag.nth_match_counted.Goals as goal
 

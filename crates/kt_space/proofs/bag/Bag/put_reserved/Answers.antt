@@ -2,7 +2,7 @@ use Rattle.std.proofs.Common.{◌≤◌, ◌+◌, [], ◌∷◌, ◌++◌, IsTru
 use Rattle.std.proofs.Math.Facts.{Fits-le}
 use Rattle.std.proofs.lemmas.Bool.{false≢true}
 use Rattle.kt_space.specs.Holding.{Holding}
-use Rattle.kt_space.specs.inner.Slots.{filled}
+use Rattle.kt_space.specs.auxiliary.Slots.{filled}
 use Rattle.kt_space.proofs.Filled.{filled_pushed, filled_at_most}
 use Rattle.kt_space.proofs.Bags.{indexed_pushed}
 use Rattle.kt_space.proofs.bag.Bag.put_reserved.Goals as goal

@@ -5,7 +5,7 @@ use Rattle.std.proofs.lemmas.Option.{same_Some, slice_get_within, slice_get_read
 use Rattle.kt_tuple.specs.declared.tuple.Tuple.{Tuple}
 use Rattle.kt_space.specs.Holding.{Holding}
 use Rattle.kt_space.specs.Picking.{matching, without_match}
-use Rattle.kt_space.specs.inner.Slots.{IsFound, IsIndexed, filled}
+use Rattle.kt_space.specs.auxiliary.Slots.{IsFound, IsIndexed, filled}
 use Rattle.kt_space.proofs.Filled.{found_match, found_others}
 use Rattle.kt_space.proofs.Bags.{indexed_without, some_tuple, nothing_found}
 use Rattle.kt_space.proofs.bag.Bag.take_nth.Goals as goal

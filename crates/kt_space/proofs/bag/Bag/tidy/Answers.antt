@@ -1,8 +1,8 @@
 use Rattle.std.proofs.Common.{Some, map, ap, ◌∙◌}
 use Rattle.std.proofs.lemmas.Bool.{false≢true}
-use Rattle.kt_space.specs.inner.Grouping.{kinds_key, first_key}
+use Rattle.kt_space.specs.auxiliary.Grouping.{kinds_key, first_key}
 use Rattle.kt_space.specs.Holding.{Holding}
-use Rattle.kt_space.specs.inner.Slots.{filled}
+use Rattle.kt_space.specs.auxiliary.Slots.{filled}
 use Rattle.kt_space.proofs.Bags.{indexed_tidied, tidied_filled}
 use Rattle.kt_space.proofs.bag.Bag.tidy.Goals as goal
 

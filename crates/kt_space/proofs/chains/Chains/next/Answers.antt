@@ -1,5 +1,5 @@
 use Rattle.std.proofs.Common.{ℕ, Some, sym, subst}
-use Rattle.kt_space.specs.inner.Chaining.{groups_of, Beside, Chained, Has}
+use Rattle.kt_space.specs.auxiliary.Chaining.{groups_of, Beside, Chained, Has}
 use Rattle.kt_space.proofs.chains.Chains.next.Goals as goal
 
 pub returns : goal.returns

@@ -1,7 +1,7 @@
 use Rattle.std.proofs.Common.{rules, ◌≡◌, ℕ, ◌≤◌, ◌<◌, List, Option, None, Some, [], ◌∷◌, ◌++◌, length, sym, subst, ap, ◌∙◌}
 use Rattle.kt_space.specs.declared.chains.Ends.{Ends}
 use Rattle.kt_space.specs.declared.chains.Link.{Link}
-use Rattle.kt_space.specs.inner.Chaining.{Chained, after_changed, first_changed, last_changed, groups_of, opened, before_of}
+use Rattle.kt_space.specs.auxiliary.Chaining.{Chained, after_changed, first_changed, last_changed, groups_of, opened, before_of}
 use Rattle.kt_space.proofs.Tables.{AreTables, table_pushed, table_opened, pushed_groups, tables_as}
 use Rattle.kt_space.proofs.chains.Chains.push.Goals as goal
 

@@ -1,7 +1,7 @@
 use Rattle.std.proofs.Common.{◌≡◌, List, Option, None, set, sym, subst, ap, ◌∙◌}
 use Rattle.kt_space.specs.declared.chains.Ends.{Ends}
 use Rattle.kt_space.specs.declared.chains.Link.{Link}
-use Rattle.kt_space.specs.inner.Chaining.{Chained, after_changed, before_changed, last_changed, changed, groups_of}
+use Rattle.kt_space.specs.auxiliary.Chaining.{Chained, after_changed, before_changed, last_changed, changed, groups_of}
 use Rattle.kt_space.proofs.Tables.{table_unlinked, unlinked_groups, group_at, no_group, tables_as}
 use Rattle.kt_space.proofs.chains.Chains.remove.Goals as goal
 

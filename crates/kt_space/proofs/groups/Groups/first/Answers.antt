@@ -1,7 +1,7 @@
 use Rattle.std.proofs.Common.{◌<◌, None, subst, sym}
 use Rattle.std.proofs.lemmas.Option.{slice_get_within}
-use Rattle.kt_space.specs.inner.Chaining.{Beside}
-use Rattle.kt_space.specs.inner.Grouping.{Grouped, keys_at, key_eq, key_eq_decides}
+use Rattle.kt_space.specs.auxiliary.Chaining.{Beside}
+use Rattle.kt_space.specs.auxiliary.Grouping.{Grouped, keys_at, key_eq, key_eq_decides}
 use Rattle.kt_space.proofs.Numbered.{beside_key, no_key, not_among, position_found}
 use Rattle.kt_space.proofs.groups.Groups.first.Goals as goal
 

@@ -1,7 +1,7 @@
 use Rattle.std.proofs.Common.{Some, subst}
 use Rattle.kt_space.specs.declared.key.Key.{Key}
-use Rattle.kt_space.specs.inner.Chaining.{Beside, Has}
-use Rattle.kt_space.specs.inner.Grouping.{Grouped}
+use Rattle.kt_space.specs.auxiliary.Chaining.{Beside, Has}
+use Rattle.kt_space.specs.auxiliary.Grouping.{Grouped}
 use Rattle.kt_space.proofs.Numbered.{of_key, beside_key}
 use Rattle.kt_space.proofs.groups.Groups.next.Goals as goal
 

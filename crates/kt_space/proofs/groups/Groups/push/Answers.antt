@@ -1,5 +1,5 @@
 use Rattle.std.proofs.Common.{◌<◌, Some, [], ◌∷◌, ◌++◌, subst, sym, ap, ◌∙◌}
-use Rattle.kt_space.specs.inner.Grouping.{Grouped, keys_at, key_eq, key_eq_decides}
+use Rattle.kt_space.specs.auxiliary.Grouping.{Grouped, keys_at, key_eq, key_eq_decides}
 use Rattle.kt_space.proofs.Numbered.{inserted, keys_kept, keys_more, numbers_more}
 use Rattle.kt_space.proofs.groups.Groups.push.Goals as goal
 

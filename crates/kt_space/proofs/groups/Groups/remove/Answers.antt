@@ -1,5 +1,5 @@
 use Rattle.std.proofs.Common.{None, set, ap, ◌∙◌}
-use Rattle.kt_space.specs.inner.Grouping.{Grouped, keys_at}
+use Rattle.kt_space.specs.auxiliary.Grouping.{Grouped, keys_at}
 use Rattle.kt_space.proofs.Numbered.{keys_without}
 use Rattle.kt_space.proofs.groups.Groups.remove.Goals as goal
 

@@ -4,8 +4,8 @@ use Rattle.std.proofs.lemmas.Option.{slice_get_read}
 use Rattle.kt_tuple.specs.declared.tuple.Tuple.{Tuple}
 use Rattle.kt_space.specs.declared.index.Index.{Index}
 use Rattle.kt_space.specs.declared.key.Key.{Key}
-use Rattle.kt_space.specs.inner.Grouping.{kinds_key, first_key}
-use Rattle.kt_space.specs.inner.Slots.{filled}
+use Rattle.kt_space.specs.auxiliary.Grouping.{kinds_key, first_key}
+use Rattle.kt_space.specs.auxiliary.Slots.{filled}
 use Rattle.kt_space.proofs.Filled.{filled_some, filled_none}
 use Rattle.kt_space.proofs.index.Index.of.Goals as goal
 use Rattle.kt_space.proofs.index.Index.of.Goals.{in-Some+in_ok-reserve, in_default}

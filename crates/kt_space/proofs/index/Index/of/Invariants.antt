@@ -1,6 +1,6 @@
 use Rattle.std.proofs.Common.{◌≡◌, Some, take, map}
-use Rattle.kt_space.specs.inner.Grouping.{kinds_key, first_key}
-use Rattle.kt_space.specs.inner.Slots.{filled}
+use Rattle.kt_space.specs.auxiliary.Grouping.{kinds_key, first_key}
+use Rattle.kt_space.specs.auxiliary.Slots.{filled}
 use Rattle.kt_space.proofs.index.Index.of.Given as goal
 
 abbrev pub invariant-loop-slot : goal.invariant-loop-slot

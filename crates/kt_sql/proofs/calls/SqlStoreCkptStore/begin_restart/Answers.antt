@@ -1,7 +1,7 @@
 use Rattle.std.proofs.Common.{◌∙◌}
 use Rattle.kt_store.specs.Changes.{restart_begun}
-use Rattle.kt_tables.specs.Held.{content_of}
-use Rattle.kt_tables.specs.Cells.{cells_node}
+use Rattle.kt_sql_tables.specs.Held.{content_of}
+use Rattle.kt_sql_tables.specs.Cells.{cells_node}
 use Rattle.kt_tuple.proofs.Shared.{on_ok}
 use Rattle.kt_sql.proofs.CallLemmas.{restarts}
 use Rattle.kt_sql.proofs.StopLemmas.{Read, both_read, read_left}

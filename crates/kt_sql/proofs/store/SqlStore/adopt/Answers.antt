@@ -1,3 +1,4 @@
+-- Of `SqlStore::adopt` in src/open.rt.
 use Rattle.std.proofs.Common.{◌≡◌, ◌∙◌, Bool, Err, Result, sym, ap, subst}
 use Rattle.std.specs.Prelude.{◌↔◌, IsTrue}
 use Rattle.sqlite.specs.Held.{state}
@@ -5,13 +6,13 @@ use Rattle.sqlite.specs.State.{HasCleanDisk}
 use Rattle.sqlite.specs.Effect.{Database}
 use Rattle.sqlite.specs.Tree.{Trees}
 use Rattle.kt_store.specs.Content.{Content, empty_content}
-use Rattle.kt_tables.specs.Stored.{IsStoreOf}
-use Rattle.kt_tables.specs.declared.ready.ReadyError.{ReadyError}
-use Rattle.kt_tables.specs.Schema.{no_schema}
-use Rattle.kt_tables.specs.Opened.{HasNoRow, IsOldVersion}
-use Rattle.kt_tables.specs.Rows.{AreAsSaid, Holds}
-use Rattle.kt_tables.specs.Held.{Tabled, is_sure, content_of}
-use Rattle.kt_tables.proofs.Shared.{holds_content, made_fresh, one_version, ready_sure, store_version}
+use Rattle.kt_sql_tables.specs.Stored.{IsStoreOf}
+use Rattle.kt_sql_tables.specs.declared.ready.ReadyError.{ReadyError}
+use Rattle.kt_sql_tables.specs.Schema.{no_schema}
+use Rattle.kt_sql_tables.specs.Opened.{HasNoRow, IsOldVersion}
+use Rattle.kt_sql_tables.specs.Rows.{AreAsSaid, Holds}
+use Rattle.kt_sql_tables.specs.Held.{Tabled, is_sure, content_of}
+use Rattle.kt_sql_tables.proofs.Shared.{holds_content, made_fresh, one_version, ready_sure, store_version}
 use Rattle.kt_sql.proofs.OpenLemmas.{only_two}
 use Rattle.kt_sql.proofs.store.SqlStore.adopt.Goals as goal
 

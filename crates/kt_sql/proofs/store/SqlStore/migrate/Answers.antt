@@ -1,8 +1,9 @@
+-- Of `SqlStore::migrate` in src/migrating.rt.
 use Rattle.std.proofs.Common.{◌≡◌, sym, subst}
 use Rattle.sqlite.specs.Held.{state}
 use Rattle.sqlite.specs.State.{HasCleanDisk}
-use Rattle.kt_tables.specs.Held.{Tabled, content_of}
-use Rattle.kt_tables.proofs.Shared.{carried_sure}
+use Rattle.kt_sql_tables.specs.Held.{Tabled, content_of}
+use Rattle.kt_sql_tables.proofs.Shared.{carried_sure}
 use Rattle.kt_sql.proofs.store.SqlStore.migrate.Goals as goal
 
 pub returns-in-Ok-true-clause-content : goal.returns-in-Ok-true-clause-content

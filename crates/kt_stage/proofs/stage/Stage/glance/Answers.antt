@@ -1,3 +1,4 @@
+-- Of `Stage::glance` in src/glance.rt.
 use Rattle.std.proofs.Common.{subst, sym}
 use Rattle.kt_stage.specs.Journal.{Journal}
 use Rattle.kt_stage.specs.Running.{IsRefusedAt}

@@ -1,6 +1,6 @@
 use Rattle.std.proofs.Common.{rules, ◌≡◌, ◌≤◌, ◌∙◌, ◌+◌, ℕ, map, length, sym, ap, arith}
 use Rattle.std.specs.Prelude.{fold, max}
-use Rattle.kt_store.specs.declared.rows.Posted.{Posted}
+use Rattle.kt_store.specs.declared.rows.InstanceRow.{InstanceRow}
 use Rattle.kt_store.specs.Content.{greatest, next_instance}
 use Rattle.kt_store.proofs.Board.{greatest_within}
 use Rattle.kt_store.proofs.Numbered.{greatest_numbered}
@@ -15,8 +15,8 @@ returns-clause-value c =
 pub returns-clause-within : goal.returns-clause-within
 returns-clause-within c =
     let count : c.len.result ≡ 0 + length c.self.inside.board.items = search rules in
-    let low : fold max 0 (map (λ (row : Posted). row.instance) c.self.inside.board.items) ≤ greatest =
+    let low : fold max 0 (map (λ (row : InstanceRow). row.instance) c.self.inside.board.items) ≤ greatest =
     greatest_within c.self.inside.board.items 0 greatest (omega arith) c.self.invariant.1.within in
-    let is : c.len.result ≡ fold max 0 (map (λ (row : Posted). row.instance) c.self.inside.board.items) =
+    let is : c.len.result ≡ fold max 0 (map (λ (row : InstanceRow). row.instance) c.self.inside.board.items) =
     count ∙ sym (greatest_numbered c.self.inside.board.items 0 c.self.invariant.2) in
     grind (arith, low, is)

@@ -2,7 +2,7 @@ use Rattle.std.proofs.Common.{rules, ◌≡◌, ◌∙◌, List, Some, None, sym
 use Rattle.std.specs.List.{find}
 use Rattle.std.specs.Option.{option_map}
 use Rattle.kt_tuple.specs.Node.{node_eq}
-use Rattle.kt_store.specs.declared.posted.Opened.{Opened}
+use Rattle.kt_store.specs.declared.instance_row.Opened.{Opened}
 use Rattle.kt_store.specs.Content.{Content, open_of}
 use Rattle.kt_store.proofs.Numbered.{open_found}
 use Rattle.kt_store.proofs.contents.Contents.open_instance_of.Goals as goal

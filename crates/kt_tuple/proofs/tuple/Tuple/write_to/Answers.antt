@@ -1,3 +1,4 @@
+-- Of `Tuple::write_to` in src/writing.rt.
 use Rattle.std.specs.Prelude.{◌≡◌, All, None, OnOk}
 use Rattle.std.proofs.Common.{subst}
 use Rattle.kt_tuple.specs.Parsing.{tuple_fault, tuple_values}

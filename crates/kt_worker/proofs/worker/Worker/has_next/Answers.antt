@@ -1,5 +1,5 @@
 use Rattle.std.proofs.Common.{rules, ◌≡◌, ◌∙◌}
-use Rattle.kt_worker.specs.Standing.{is_left}
+use Rattle.kt_worker.specs.WorkerModel.{is_left}
 use Rattle.kt_worker.proofs.Requests.{is_left-asks}
 use Rattle.kt_worker.proofs.worker.Worker.has_next.Goals as goal
 

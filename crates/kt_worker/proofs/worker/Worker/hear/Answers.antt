@@ -1,5 +1,5 @@
 use Rattle.std.proofs.Common.{rules, ◌≡◌, true, false}
-use Rattle.kt_worker.specs.Standing.{awaits}
+use Rattle.kt_worker.specs.WorkerModel.{awaits}
 use Rattle.kt_worker.proofs.Requests.{awaits-is, awaits-decides, heard-after}
 use Rattle.kt_worker.proofs.worker.Worker.hear.Goals as goal
 

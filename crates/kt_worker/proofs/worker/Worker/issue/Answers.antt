@@ -1,5 +1,5 @@
 use Rattle.std.proofs.Common.{rules, ◌≡◌, Some, None, ap, ◌∙◌}
-use Rattle.kt_worker.specs.Standing.{next_request}
+use Rattle.kt_worker.specs.WorkerModel.{next_request}
 use Rattle.kt_worker.proofs.Requests.{request-asks, issued-after}
 use Rattle.kt_worker.proofs.worker.Worker.issue.Goals as goal
 

@@ -1,4 +1,0 @@
--- What the code alone keeps, and no public clause cites.
-pub mod Bodies
-pub mod Codes
-pub mod Between

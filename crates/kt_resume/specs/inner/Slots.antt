@@ -1,9 +1,0 @@
--- What an act makes of what is known of its worker.
-use Rattle.kt_history.specs.declared.note.Act.{Act}
-use Rattle.kt_history.specs.declared.note.What.{What}
-use Rattle.kt_lines.specs.ShardLine.{desk_after, cause_after}
-use Rattle.kt_resume.specs.Remade.{Slot}
-
--- the slot of the act's worker after it
-abbrev pub slot_after : Slot → Act → What → Slot
-slot_after s a what = record { desk = desk_after s.desk a what; cause = cause_after s.cause a what }

@@ -1,0 +1,3 @@
+pub mod Scene
+pub mod Step
+pub mod Faults

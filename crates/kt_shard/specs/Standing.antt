@@ -1,8 +1,0 @@
--- What a shard is to its callers.
-use Rattle.std.specs.Prelude.{Bool}
-use Rattle.kt_shard.specs.Shard.{Shard}
-
--- the shard as plain data, and whether one more tuple takes no memory
-pub record Standing : Type 0 where
-  pub state : Shard
-  pub has_room : Bool

@@ -1,0 +1,12 @@
+pub mod Cells
+pub mod Held
+pub mod Made
+pub mod Old
+pub mod Opened
+pub mod Reason
+pub mod Rows
+pub mod Schema
+pub mod Settled
+pub mod Stopped
+pub mod Stored
+pub mod auxiliary

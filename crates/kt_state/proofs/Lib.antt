@@ -1,0 +1,4 @@
+pub mod Numbers
+pub mod Tables
+pub mod Sieving
+pub mod Shared

@@ -1,0 +1,16 @@
+pub mod Labels
+pub mod Node
+pub mod Kept
+pub mod Views
+pub mod Codes
+pub mod Updating
+pub mod ShortUpdate
+pub mod Ready
+pub mod Stored
+pub mod State
+pub mod Refusing
+pub mod Loading
+pub mod Plan
+pub mod Asking
+pub mod Voting
+pub mod auxiliary

@@ -1,8 +1,0 @@
--- A connection between two calls of the store.
-use Rattle.std.specs.Prelude.{◌≡◌, false}
-use Rattle.sqlite.specs.State.{State}
-
--- no transaction is open, and what is seen is what was committed
-pub record IsSettled (s : State) : Type 0 where
-  pub autocommit : s.in_transaction ≡ false
-  pub same : s.now ≡ s.committed
