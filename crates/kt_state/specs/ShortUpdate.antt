@@ -1,5 +1,5 @@
 -- The short turn of a frequent step, as the update that it stands for.
--- Cited by short_update.rt; kt_core, kt_node.
+-- Cited by short_update.rt; other crates.
 use Rattle.std.specs.Prelude.{Some}
 use Rattle.kt_tuple.specs.declared.node.NodeId.TheVariants as ids
 use Rattle.kt_state.specs.declared.change.BodyChange.TheVariants as bodies

@@ -30,6 +30,10 @@ impl Opens<SqlStore<MemStore>, SqlOpenError> for Noting<'_> {
         }
         SqlStore::in_memory(self.rt.alloc())
     }
+
+    fn put_away(store: SqlStore<MemStore>) {
+        drop(store);
+    }
 }
 
 /// It connects to a fresh database for the same path.
@@ -118,6 +122,7 @@ fn asks_the_opener_once(rt: HostRuntime) -> Result<(), Fail> {
             &mut reader,
             &mut writer,
             &mut errors,
+            false,
         );
         assert_eq!(rt; asked.get(), *times, "{words:?}");
         assert!(rt;

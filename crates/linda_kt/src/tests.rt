@@ -77,7 +77,16 @@ fn run_with<T: Threads + Wait + Sync, R: Read, W: Write, E: Write>(
     errors: &mut E,
 ) -> u8 {
     let opener = Files::new(rt);
-    run_program(opener, threads, rt.alloc(), words, reader, writer, errors)
+    run_program(
+        opener,
+        threads,
+        rt.alloc(),
+        words,
+        reader,
+        writer,
+        errors,
+        false,
+    )
 }
 
 pub fn run<T: Threads + Wait + Sync>(
