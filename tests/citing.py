@@ -1,11 +1,11 @@
 """Who relies on a file: the line `Cited by ..` in the head of each source, specification and file of lemmas.
 
-A file of specs/ or proofs/ is cited by who imports a word of it, also where another file passes the word on. A source is
-cited by who imports an item of it, or calls a method that it defines and may know it by crates.txt: of a type which the
-caller names, or of a name that no other type has a method of, in std neither. Named are files of the same crate, the
-functions whose proofs cite it, and other crates. Roots, answers and invariants have no such line: the heads of roots
-name crates, and an answer is for the function that its path names. Where that function stands in another source than
-the path says, the answers begin with a line of their own, `Of ..`.
+A file of specs/ or proofs/ is cited by who imports a word of it, also where another file passes the word on. A source
+is cited by who imports an item of it, or calls a method that it defines and may know it by crates.txt: of a type which
+the caller names, or of a name that no other type has a method of, in std neither. Named are files of the same crate,
+the functions whose proofs cite it, and other crates. Roots, answers and invariants have no such line: the heads of
+roots name crates, and an answer is for the function that its path names. Where that function stands in another source
+than the path says, the answers begin with a line of their own, `Of ..`.
 """
 
 import collections
@@ -291,7 +291,8 @@ def with_line(path):
 def wrong_lines():
     """The files whose line is not as it must be."""
     lost = [path for path in all_files() if with_line(path) != text_of(path)]
-    return [f"{path}: its line `Cited by` or `Of` is not as `tests/cited` prints it: `tests/cited --write`" for path in lost]
+    wrong = "its line `Cited by` or `Of` is not as `tests/cited` prints it: `tests/cited --write`"
+    return [f"{path}: {wrong}" for path in lost]
 
 
 def write():
