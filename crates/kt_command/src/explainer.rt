@@ -127,5 +127,11 @@ impl Observer for Explainer {
         }
     }
 
-    fn ended<S: CkptStore>(&mut self, _alloc: Global, _world: &World<S>, _steps: &[Step]) {}
+    fn ended<S: CkptStore>(
+        &mut self,
+        _alloc: Global,
+        _text: &[u8],
+        _world: &World<S>,
+        _steps: &[Step],
+    ) {}
 }

@@ -249,7 +249,7 @@ fn run<S: CkptStore + Drop, O: Observer>(
     match start.begin(alloc, scene, store) {
         Ok(mut world) => match make_steps(alloc, &mut world, steps) {
             Ok(()) => {
-                observer.ended(alloc, &world, steps);
+                observer.ended(alloc, text, &world, steps);
                 Ok(world)
             }
             Err(fault) => {
