@@ -4,14 +4,14 @@ ghost use Rattle.std.specs.Prelude.{◌≡◌, false};
 ghost use Rattle.sqlite.specs.Files.{over_files};
 ghost use Rattle.linda_kt.specs.Files.{CarriesFile, ConnectsFile, OpensFile};
 
-use kt_command::{Carries, Opens};
+use kt_command::{Carries, Opens, Texts};
 use kt_sql::{SqlOpenError, SqlStore, connect};
 use kt_store::MemStore;
 use sqlite::{Connection, File, FileStore};
 use std::alloc::Global;
-use std::fs;
+use std::{fs, io};
 
-/// Opens the store in a file, or carries it over, by the runtime of the process.
+/// Opens the store or the scenario in a file, or carries a store over, by the runtime of the process.
 #[derive(Drop)]
 pub struct Files<'a> {
     rt: &'a HostRuntime,
@@ -43,6 +43,17 @@ impl Opens<SqlStore<FileStore<File>>, SqlOpenError> for Files<'_> {
     /// the rest, and the next opening reads it.
     fn put_away(store: SqlStore<FileStore<File>>) {
         let _ = store.into_connection().close();
+    }
+}
+
+/// Opens the scenario in a file.
+impl Texts<fs::File, io::Error> for Files<'_> {
+    ghost use Rattle.std.specs.Prelude.{⊤};
+
+    ghost gives_text = { λ _ _ _. ⊤ };
+
+    fn open_text(&self, path: &str) -> io::Result<fs::File> {
+        fs::File::open(self.rt, path)
     }
 }
 

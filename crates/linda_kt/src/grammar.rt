@@ -1,0 +1,295 @@
+//! The grammar of the command line, in the words of `clap`.
+//! Cited by words.rt.
+ghost use Rattle.std.specs.Prelude.{◌≡◌, false, IfOk};
+ghost use Rattle.clap.specs.Words.{app_of, rule_of};
+ghost use Rattle.clap.specs.declared.builder.command.Command.TheViews.{out-Command as fields_of};
+ghost use Rattle.clap.specs.Simple.{shape_of};
+ghost use Rattle.linda_kt.specs.Grammar.{check_shape, command_line_app, complete_shape, completion_shape};
+ghost use Rattle.linda_kt.specs.Grammar.{explain_rule, explain_shape, journal_rule, json_rule, kept_store_rule};
+ghost use Rattle.linda_kt.specs.Grammar.{migrate_shape, old_store_rule, opening_app, program_app, reading_app};
+ghost use Rattle.linda_kt.specs.Grammar.{replay_shape, resume_rule, resume_shape, run_shape, running_app};
+ghost use Rattle.linda_kt.specs.Grammar.{scenario_rule, show_shape, store_rule, telling_app, word_rule};
+
+use clap::{Arg, ArgAction};
+use kt_words::{
+    ABOUT, ArgumentWords, CHECK, COMPLETE, COMPLETION, EXPLAIN, EXPLAIN_NUMBER, JOURNAL, JSON, JSON_OF_STORE, KEPT_STORE,
+    MANUAL, MIGRATE, NUMBER, OLD_STORE, REPLAY, RESUME, RESUME_COMMAND, RUN, SCENARIO, SHELL, SHOW, STORE, STORE_FILE,
+    VERSION,
+};
+use std::alloc::{AllocError, Global};
+
+/// The grammar of the command line: one subcommand, which must be there.
+pub(crate) fn command_line<'a>(alloc: Global) -> Result<clap::Command<'a>, AllocError>
+    ensures { IfOk result (λ c. app_of c ≡ command_line_app) }
+{
+    let completion = completion_command(alloc)?;
+    let manual = clap::Command::new(alloc, "manual").about(MANUAL.about);
+    telling_commands(alloc)?
+        .subcommand(completion)?
+        .subcommand(manual)
+}
+
+/// The grammar with the commands that say what was stored or printed.
+fn telling_commands<'a>(alloc: Global) -> Result<clap::Command<'a>, AllocError>
+    ensures app { IfOk result (λ c. app_of c ≡ telling_app) }
+    ensures local { IfOk result (λ c. (fields_of c).has_globals ≡ false) }
+{
+    let show = show_command(alloc)?;
+    let explain = explain_command(alloc)?;
+    reading_commands(alloc)?
+        .subcommand(show)?
+        .subcommand(explain)
+}
+
+/// The grammar with the commands that read a scenario.
+fn reading_commands<'a>(alloc: Global) -> Result<clap::Command<'a>, AllocError>
+    ensures app { IfOk result (λ c. app_of c ≡ reading_app) }
+    ensures local { IfOk result (λ c. (fields_of c).has_globals ≡ false) }
+{
+    let migrate = migrate_command(alloc)?;
+    let check = check_command(alloc)?;
+    let complete = complete_command(alloc)?;
+    running_commands(alloc)?
+        .subcommand(migrate)?
+        .subcommand(check)?
+        .subcommand(complete)
+}
+
+/// The grammar with the commands over a store alone.
+fn running_commands<'a>(alloc: Global) -> Result<clap::Command<'a>, AllocError>
+    ensures app { IfOk result (λ c. app_of c ≡ running_app) }
+    ensures local { IfOk result (λ c. (fields_of c).has_globals ≡ false) }
+{
+    let resume = resume_command(alloc)?;
+    opening_commands(alloc)?.subcommand(resume)
+}
+
+/// The grammar with the commands that a store in memory is enough for.
+fn opening_commands<'a>(alloc: Global) -> Result<clap::Command<'a>, AllocError>
+    ensures app { IfOk result (λ c. app_of c ≡ opening_app) }
+    ensures local { IfOk result (λ c. (fields_of c).has_globals ≡ false) }
+{
+    let replay = replay_command(alloc)?;
+    let run = run_command(alloc)?;
+    described(alloc)
+        .bin_name("linda_kt")?
+        .no_binary_name(true)
+        .subcommand_required(true)
+        .subcommand(replay)?
+        .subcommand(run)
+}
+
+/// `replay` with its option and its flag.
+fn replay_command<'a>(alloc: Global) -> Result<clap::Command<'a>, AllocError>
+    ensures shape { IfOk result (λ c. shape_of c ≡ replay_shape) }
+    ensures local { IfOk result (λ c. (fields_of c).has_globals ≡ false) }
+{
+    clap::Command::new(alloc, "replay")
+        .about(REPLAY.about)
+        .arg(scenario_argument(alloc))?
+        .arg(store_option(alloc))?
+        .arg(explain_flag(alloc))?
+        .arg(json_flag(alloc, JSON.help))
+}
+
+/// `resume` with its option, which must stand, and its flag.
+fn resume_command<'a>(alloc: Global) -> Result<clap::Command<'a>, AllocError>
+    ensures shape { IfOk result (λ c. shape_of c ≡ resume_shape) }
+    ensures local { IfOk result (λ c. (fields_of c).has_globals ≡ false) }
+{
+    clap::Command::new(alloc, "resume")
+        .about(RESUME_COMMAND.about)
+        .arg(scenario_argument(alloc))?
+        .arg(kept_store_option(alloc))?
+        .arg(explain_flag(alloc))?
+        .arg(json_flag(alloc, JSON.help))
+}
+
+/// `run` with its option and its flags.
+fn run_command<'a>(alloc: Global) -> Result<clap::Command<'a>, AllocError>
+    ensures shape { IfOk result (λ c. shape_of c ≡ run_shape) }
+    ensures local { IfOk result (λ c. (fields_of c).has_globals ≡ false) }
+{
+    clap::Command::new(alloc, "run")
+        .about(RUN.about)
+        .arg(scenario_argument(alloc))?
+        .arg(store_option(alloc))?
+        .arg(journal_flag(alloc))?
+        .arg(resume_flag(alloc))?
+        .arg(explain_flag(alloc))?
+        .arg(json_flag(alloc, JSON.help))
+}
+
+/// `migrate` with its option, which must stand.
+fn migrate_command<'a>(alloc: Global) -> Result<clap::Command<'a>, AllocError>
+    ensures shape { IfOk result (λ c. shape_of c ≡ migrate_shape) }
+    ensures local { IfOk result (λ c. (fields_of c).has_globals ≡ false) }
+{
+    clap::Command::new(alloc, "migrate")
+        .about(MIGRATE.about)
+        .arg(scenario_argument(alloc))?
+        .arg(old_store_option(alloc))
+}
+
+/// `check` with its flag.
+fn check_command<'a>(alloc: Global) -> Result<clap::Command<'a>, AllocError>
+    ensures shape { IfOk result (λ c. shape_of c ≡ check_shape) }
+    ensures local { IfOk result (λ c. (fields_of c).has_globals ≡ false) }
+{
+    clap::Command::new(alloc, "check")
+        .about(CHECK.about)
+        .arg(scenario_argument(alloc))?
+        .arg(explain_flag(alloc))?
+        .arg(json_flag(alloc, JSON.help))
+}
+
+/// `complete`.
+fn complete_command<'a>(alloc: Global) -> Result<clap::Command<'a>, AllocError>
+    ensures shape { IfOk result (λ c. shape_of c ≡ complete_shape) }
+    ensures local { IfOk result (λ c. (fields_of c).has_globals ≡ false) }
+{
+    clap::Command::new(alloc, "complete")
+        .about(COMPLETE.about)
+        .arg(scenario_argument(alloc))
+}
+
+/// `show` with its file and its flag.
+fn show_command<'a>(alloc: Global) -> Result<clap::Command<'a>, AllocError>
+    ensures shape { IfOk result (λ c. shape_of c ≡ show_shape) }
+    ensures local { IfOk result (λ c. (fields_of c).has_globals ≡ false) }
+{
+    clap::Command::new(alloc, "show")
+        .about(SHOW.about)
+        .arg(word(alloc, "store", STORE_FILE))?
+        .arg(json_flag(alloc, JSON_OF_STORE.help))
+}
+
+/// `explain` with its word.
+fn explain_command<'a>(alloc: Global) -> Result<clap::Command<'a>, AllocError>
+    ensures shape { IfOk result (λ c. shape_of c ≡ explain_shape) }
+    ensures local { IfOk result (λ c. (fields_of c).has_globals ≡ false) }
+{
+    clap::Command::new(alloc, "explain")
+        .about(EXPLAIN_NUMBER.about)
+        .arg(word(alloc, "meaning", NUMBER))
+}
+
+/// `completion` with its shell.
+fn completion_command<'a>(alloc: Global) -> Result<clap::Command<'a>, AllocError>
+    ensures shape { IfOk result (λ c. shape_of c ≡ completion_shape) }
+    ensures local { IfOk result (λ c. (fields_of c).has_globals ≡ false) }
+{
+    clap::Command::new(alloc, "completion")
+        .about(COMPLETION.about)
+        .arg(word(alloc, "shell", SHELL))
+}
+
+/// The file of a scenario.
+fn scenario_argument<'a>(alloc: Global) -> Arg<'a>
+    ensures rule { rule_of result ≡ scenario_rule }
+    ensures local { result.global ≡ false }
+{
+    Arg::new(alloc, "scenario")
+        .value_name(SCENARIO.name)
+        .help(SCENARIO.help)
+}
+
+/// A word that must stand.
+fn word<'a>(alloc: Global, id: &'a str, words: ArgumentWords) -> Arg<'a>
+    ensures rule { rule_of result ≡ word_rule id.now }
+    ensures local { result.global ≡ false }
+{
+    Arg::new(alloc, id)
+        .value_name(words.name)
+        .required(true)
+        .help(words.help)
+}
+
+/// `--json`.
+fn json_flag<'a>(alloc: Global, help: &'a str) -> Arg<'a>
+    ensures rule { rule_of result ≡ json_rule }
+    ensures local { result.global ≡ false }
+{
+    Arg::new(alloc, "json")
+        .long("json")
+        .action(ArgAction::SetTrue)
+        .help(help)
+}
+
+/// `--journal`.
+fn journal_flag<'a>(alloc: Global) -> Arg<'a>
+    ensures rule { rule_of result ≡ journal_rule }
+    ensures local { result.global ≡ false }
+{
+    Arg::new(alloc, "journal")
+        .long("journal")
+        .action(ArgAction::SetTrue)
+        .help(JOURNAL.help)
+}
+
+/// `--resume`.
+fn resume_flag<'a>(alloc: Global) -> Arg<'a>
+    ensures rule { rule_of result ≡ resume_rule }
+    ensures local { result.global ≡ false }
+{
+    Arg::new(alloc, "resume")
+        .long("resume")
+        .action(ArgAction::SetTrue)
+        .help(RESUME.help)
+}
+
+/// `--explain`.
+fn explain_flag<'a>(alloc: Global) -> Arg<'a>
+    ensures rule { rule_of result ≡ explain_rule }
+    ensures local { result.global ≡ false }
+{
+    Arg::new(alloc, "explain")
+        .long("explain")
+        .action(ArgAction::SetTrue)
+        .help(EXPLAIN.help)
+}
+
+/// `--store FILE`.
+fn store_option<'a>(alloc: Global) -> Arg<'a>
+    ensures rule { rule_of result ≡ store_rule }
+    ensures local { result.global ≡ false }
+{
+    Arg::new(alloc, "store")
+        .long("store")
+        .value_name("FILE")
+        .help(STORE.help)
+}
+
+/// `--store FILE` of `resume`.
+fn kept_store_option<'a>(alloc: Global) -> Arg<'a>
+    ensures rule { rule_of result ≡ kept_store_rule }
+    ensures local { result.global ≡ false }
+{
+    Arg::new(alloc, "store")
+        .long("store")
+        .value_name("FILE")
+        .required(true)
+        .help(KEPT_STORE.help)
+}
+
+/// `--store FILE` of `migrate`.
+fn old_store_option<'a>(alloc: Global) -> Arg<'a>
+    ensures rule { rule_of result ≡ old_store_rule }
+    ensures local { result.global ≡ false }
+{
+    Arg::new(alloc, "store")
+        .long("store")
+        .value_name("FILE")
+        .required(true)
+        .help(OLD_STORE.help)
+}
+
+/// The program's name, what it is, and its version.
+fn described<'a>(alloc: Global) -> clap::Command<'a>
+    ensures app { app_of result ≡ program_app }
+    ensures local { (fields_of result).has_globals ≡ false }
+{
+    clap::Command::new(alloc, "linda_kt")
+        .about(ABOUT)
+        .version(VERSION)
+}
