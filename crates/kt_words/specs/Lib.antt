@@ -1,0 +1,4 @@
+pub mod Plain
+pub mod Grammar
+pub mod Shell
+pub mod auxiliary

@@ -1,0 +1,116 @@
+//! The options of the commands.
+//! Cited by command_table.rt.
+
+use crate::words::OptionWords;
+
+/// `--store FILE` of a command that begins.
+pub const STORE: OptionWords = OptionWords {
+    long: "store",
+    value: Some("FILE"),
+    help: "Keeps the checkpoints in FILE, which is absent, empty or a fresh store",
+    is_required: false,
+};
+
+/// `--store FILE` of `resume`.
+pub const KEPT_STORE: OptionWords = OptionWords {
+    long: "store",
+    value: Some("FILE"),
+    help: "The store to go on from; one that is absent, empty or fresh was stopped before its first write",
+    is_required: true,
+};
+
+/// `--store FILE` of `migrate`.
+pub const OLD_STORE: OptionWords = OptionWords {
+    long: "store",
+    value: Some("FILE"),
+    help: "The store of version 1, which holds what the journal makes and nothing else",
+    is_required: true,
+};
+
+/// `--journal`.
+pub const JOURNAL: OptionWords = OptionWords {
+    long: "journal",
+    value: None,
+    help: "Writes the report as remarks, and then the steps that were made, as a scenario for replay or resume",
+    is_required: false,
+};
+
+/// `--resume`.
+pub const RESUME: OptionWords = OptionWords {
+    long: "resume",
+    value: None,
+    help: "Goes on from what FILE holds, after the program was stopped; it need not be fresh then",
+    is_required: false,
+};
+
+/// `--explain`.
+pub const EXPLAIN: OptionWords = OptionWords {
+    long: "explain",
+    value: None,
+    help: "Says behind the line of a fault why it came; on a terminal that is so without the flag",
+    is_required: false,
+};
+
+/// `--json` of a command that writes a report.
+pub const JSON: OptionWords = OptionWords {
+    long: "json",
+    value: None,
+    help: "Writes the report as JSON",
+    is_required: false,
+};
+
+/// `--json` of `check`.
+pub const JSON_OF_CHECK: OptionWords = OptionWords {
+    long: "json",
+    value: None,
+    help: "Writes what was found as JSON",
+    is_required: false,
+};
+
+/// `--json` of `show`.
+pub const JSON_OF_STORE: OptionWords = OptionWords {
+    long: "json",
+    value: None,
+    help: "Writes what the store holds as JSON",
+    is_required: false,
+};
+
+/// `--times N`.
+pub const TIMES: OptionWords = OptionWords {
+    long: "times",
+    value: Some("N"),
+    help: "Runs the scenario N times, and says how often each report came",
+    is_required: false,
+};
+
+/// `--chaos N`.
+pub const CHAOS: OptionWords = OptionWords {
+    long: "chaos",
+    value: Some("N"),
+    help: "Adds N lines `fail NODE after STEPS`, chosen by the seed; STEPS counts the node's own steps",
+    is_required: false,
+};
+
+/// `--seed K`.
+pub const SEED: OptionWords = OptionWords {
+    long: "seed",
+    value: Some("K"),
+    help: "The number by which --chaos chooses; the same number chooses the same lines",
+    is_required: false,
+};
+
+/// `--help`, which the program and each command have.
+pub const HELP: OptionWords = OptionWords {
+    long: "help",
+    value: None,
+    help: "Print help",
+    is_required: false,
+};
+
+/// `--version`, which the program has.
+pub const VERSION_FLAG: OptionWords = OptionWords {
+    long: "version",
+    value: None,
+    help: "Print version",
+    is_required: false,
+};
