@@ -30,7 +30,7 @@ pub const STORE_FILE: ArgumentWords = ArgumentWords {
 /// The number of `explain`.
 pub const NUMBER: ArgumentWords = ArgumentWords {
     name: "NUMBER",
-    help: "The number, as in `line 4: 3 Tuple`, or the exit status",
+    help: "The number or the name, as in `line 4: 3 Tuple`, or the exit status",
     is_required: true,
     values: &[],
 };

@@ -8,8 +8,7 @@ ghost use Rattle.kt_words.specs.Plain.{is_plain_command};
 
 use crate::argument_table::{COMMAND, NUMBER, SCENARIO, SHELL, STORE_FILE, STORE_JOURNAL};
 use crate::option_table::{
-    CHAOS, EXPLAIN, JOURNAL, JSON, JSON_OF_CHECK, JSON_OF_STORE, KEPT_STORE, OLD_STORE, RESUME,
-    SEED, STORE, TIMES,
+    EXPLAIN, JOURNAL, JSON, JSON_OF_STORE, KEPT_STORE, OLD_STORE, RESUME, STORE,
 };
 use crate::words::CommandWords;
 
@@ -35,8 +34,13 @@ pub const RUN: CommandWords = CommandWords {
     name: "run",
     about: "Runs the scenario, by a thread for each node, and writes the report to standard output",
     arguments: &[SCENARIO],
-    options: &[STORE, JOURNAL, RESUME, EXPLAIN, JSON, TIMES, CHAOS, SEED],
+    options: &[STORE, JOURNAL, RESUME, EXPLAIN, JSON],
 };
+
+/// What is said behind the help of `run`.
+pub const FAULT_LINES: &str = "\
+`fail s1 after 3` makes s1 fail once it has made 3 steps of its own, or more. Its steps are counted on through its
+failures, so a second line that is due by then strikes as soon as it is back. --explain says when each line struck.";
 
 /// `resume`.
 pub const RESUME_COMMAND: CommandWords = CommandWords {
@@ -58,9 +62,9 @@ pub const MIGRATE: CommandWords = CommandWords {
 /// `check`.
 pub const CHECK: CommandWords = CommandWords {
     name: "check",
-    about: "Reads the scenario and says whether it has a fault; no step is made",
+    about: "Reads the scenario and does nothing: says of how many steps or fault lines it is, or which fault it has",
     arguments: &[SCENARIO],
-    options: &[EXPLAIN, JSON_OF_CHECK],
+    options: &[EXPLAIN, JSON],
 };
 
 /// `complete`.
@@ -82,7 +86,7 @@ pub const SHOW: CommandWords = CommandWords {
 /// `explain`.
 pub const EXPLAIN_NUMBER: CommandWords = CommandWords {
     name: "explain",
-    about: "Says what a number means that the program printed or ended with",
+    about: "Says what a number or a name means that is printed where something fails",
     arguments: &[NUMBER],
     options: &[],
 };

@@ -47,23 +47,15 @@ pub const RESUME: OptionWords = OptionWords {
 pub const EXPLAIN: OptionWords = OptionWords {
     long: "explain",
     value: None,
-    help: "Says behind the line of a fault why it came; on a terminal that is so without the flag",
+    help: "Says behind the line of a fault why it came, as on a terminal without the flag, and behind a report what it came to",
     is_required: false,
 };
 
-/// `--json` of a command that writes a report.
+/// `--json` of a command that reads a scenario.
 pub const JSON: OptionWords = OptionWords {
     long: "json",
     value: None,
-    help: "Writes the report as JSON",
-    is_required: false,
-};
-
-/// `--json` of `check`.
-pub const JSON_OF_CHECK: OptionWords = OptionWords {
-    long: "json",
-    value: None,
-    help: "Writes what was found as JSON",
+    help: "Says what --explain says as one JSON object on a line",
     is_required: false,
 };
 
@@ -72,30 +64,6 @@ pub const JSON_OF_STORE: OptionWords = OptionWords {
     long: "json",
     value: None,
     help: "Writes what the store holds as JSON",
-    is_required: false,
-};
-
-/// `--times N`.
-pub const TIMES: OptionWords = OptionWords {
-    long: "times",
-    value: Some("N"),
-    help: "Runs the scenario N times, and says how often each report came",
-    is_required: false,
-};
-
-/// `--chaos N`.
-pub const CHAOS: OptionWords = OptionWords {
-    long: "chaos",
-    value: Some("N"),
-    help: "Adds N lines `fail NODE after STEPS`, chosen by the seed; STEPS counts the node's own steps",
-    is_required: false,
-};
-
-/// `--seed K`.
-pub const SEED: OptionWords = OptionWords {
-    long: "seed",
-    value: Some("K"),
-    help: "The number by which --chaos chooses; the same number chooses the same lines",
     is_required: false,
 };
 

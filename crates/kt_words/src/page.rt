@@ -50,13 +50,23 @@ writing failed may a part be there.
 "#;
 
 /// What stands behind the statuses.
-const REST: &str = r#".SH FILES
+const REST: &str = r#".SH FAULT LINES
+The line
+.B fail s1 after 3
+of a scenario for
+.B run
+makes s1 fail once it has made 3 steps of its own, or more.
+Its steps are counted on through its failures and its restarts.
+So a second such line that is due by then strikes as soon as the node is back: many of them make a storm, and
+.B \-\-explain
+says when each of them struck.
+.SH FILES
 .TP
 \fIFILE\fR
 A store is an SQLite database, which
 .BR sqlite3 (1)
 opens.
-Beside it stand its log and its index, \fIFILE\fR\-wal and \fIFILE\fR\-shm, while a command uses it.
+Beside it stands its log, \fIFILE\fR\-wal, while a command uses it, and after a stop until the next one has ended.
 .SH EXAMPLES
 Makes the steps of a scenario, which is in the folder of the sources:
 .PP

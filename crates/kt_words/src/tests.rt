@@ -32,17 +32,17 @@ fn scripts_have_the_words(rt: HostRuntime) -> Result<(), Fail> {
     check_text(
         &completion(alloc, Shell::Bash)?,
         "# Completes the words of linda_kt in bash.",
-        " --chaos",
+        " --journal",
     )?;
     check_text(
         &completion(alloc, Shell::Zsh)?,
         "#compdef linda_kt\n# Completes the words of linda_kt in zsh.",
-        "'--chaos=[",
+        "'--journal[",
     )?;
     check_text(
         &completion(alloc, Shell::Fish)?,
         "# Completes the words of linda_kt in fish.",
-        " -l chaos -x -d '",
+        " -l journal -d '",
     )
 }
 
@@ -51,7 +51,7 @@ fn the_page_has_the_words(rt: HostRuntime) -> Result<(), Fail> {
     check_text(
         &manual(rt.alloc())?,
         ".TH LINDA_KT 1 \"\" \"linda_kt 0.1.0\" \"User Commands\"\n",
-        "\\fB\\-\\-chaos\\fR\\ \\fIN\\fR\nAdds N lines \\(gafail NODE after STEPS\\(ga",
+        "\\fB\\-\\-journal\\fR\nWrites the report as remarks",
     )
 }
 

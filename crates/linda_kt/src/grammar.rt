@@ -12,7 +12,7 @@ ghost use Rattle.linda_kt.specs.Grammar.{scenario_rule, show_shape, store_rule, 
 
 use clap::{Arg, ArgAction};
 use kt_words::{
-    ABOUT, ArgumentWords, CHECK, COMPLETE, COMPLETION, EXPLAIN, EXPLAIN_NUMBER, JOURNAL, JSON, JSON_OF_STORE, KEPT_STORE,
+    ABOUT, ArgumentWords, CHECK, COMPLETE, COMPLETION, EXPLAIN, EXPLAIN_NUMBER, FAULT_LINES, JOURNAL, JSON, JSON_OF_STORE, KEPT_STORE,
     MANUAL, MIGRATE, NUMBER, OLD_STORE, REPLAY, RESUME, RESUME_COMMAND, RUN, SCENARIO, SHELL, SHOW, STORE, STORE_FILE,
     VERSION,
 };
@@ -112,6 +112,7 @@ fn run_command<'a>(alloc: Global) -> Result<clap::Command<'a>, AllocError>
 {
     clap::Command::new(alloc, "run")
         .about(RUN.about)
+        .after_help(FAULT_LINES)
         .arg(scenario_argument(alloc))?
         .arg(store_option(alloc))?
         .arg(journal_flag(alloc))?
