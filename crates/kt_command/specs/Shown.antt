@@ -6,7 +6,7 @@ use Rattle.kt_store.specs.declared.error.StoreError.{StoreError}
 use Rattle.kt_core.specs.Store.{IsFault, StoreValue, store_value}
 use Rattle.kt_scene.specs.Outside.{Writer}
 use Rattle.kt_scene.specs.Stream.{WritesAll, WritesFront}
-use Rattle.kt_show.specs.ShownJson.{shown_json}
+use Rattle.kt_show.specs.ShownJson.{IsTextOf, shown_json}
 use Rattle.kt_show.specs.Shown.{shown}
 use Rattle.kt_command.specs.Command.{Text}
 
