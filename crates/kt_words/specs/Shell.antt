@@ -1,18 +1,14 @@
 -- The shells and their names.
 -- Cited by shell.rt.
-use Rattle.std.specs.Prelude.{◌≡◌, ℕ, Bool, if◌then◌else◌, nat_eq, List, Option, None, Some, codes, refl}
-use Rattle.std.specs.Cmp.Lexicographic.{pointwise}
+use Rattle.std.specs.Prelude.{◌≡◌, ℕ, if◌then◌else◌, List, Option, None, Some, codes, refl}
 use Rattle.kt_words.specs.declared.shell.Shell.{Shell}
 use Rattle.kt_words.specs.declared.shell.Shell.TheVariants.{Bash, Zsh, Fish}
+use Rattle.kt_words.specs.Word.{is_word}
 
 abbrev pub name_of : Shell → List ℕ
 name_of Bash = codes "bash"
 name_of Zsh = codes "zsh"
 name_of Fish = codes "fish"
-
--- the text is this word
-abbrev pub is_word : List ℕ → List ℕ → Bool
-is_word text word = pointwise nat_eq text word
 
 -- the shell of a name, if one has it
 abbrev pub shell_of : List ℕ → Option Shell

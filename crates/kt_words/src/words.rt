@@ -2,6 +2,9 @@
 //! Cited by argument_table.rt, bash.rt, command_table.rt, completing.rt, fish.rt, option_table.rt, page.rt,
 //!   page_commands.rt, zsh.rt.
 
+ghost use Rattle.std.specs.Prelude.{◌≡◌};
+ghost use Rattle.kt_words.specs.Kind.{is_file_name, kind_of};
+
 /// An option of a command: one with a value, or a flag.
 #[derive(Clone, Copy, Debug, PartialEq, Eq)]
 pub struct OptionWords {
@@ -55,18 +58,25 @@ pub enum ValueKind {
 
 impl OptionWords {
     /// What its value is.
-    pub fn kind(&self) -> ValueKind {
-        match self.value {
-            None => ValueKind::Flag,
-            Some(value) if value == "FILE" => ValueKind::File,
-            Some(_) => ValueKind::Number,
+    pub fn kind(&self) -> ValueKind
+        ensures { result ≡ kind_of self.now.value }
+    {
+        let Some(value) = self.value else {
+            return ValueKind::Flag;
+        };
+        if value == "FILE" {
+            ValueKind::File
+        } else {
+            ValueKind::Number
         }
     }
 }
 
 impl ArgumentWords {
     /// Whether it is the name of a file.
-    pub fn is_file(&self) -> bool {
+    pub fn is_file(&self) -> bool
+        ensures { result ≡ is_file_name self.now.name.now }
+    {
         self.name == "FILE" || self.name == "SCENARIO"
     }
 }
