@@ -16,6 +16,7 @@ mod explainer;
 mod opens;
 mod request;
 mod running;
+mod shows;
 mod status;
 mod words;
 
@@ -26,6 +27,7 @@ pub use explainer::{Explained, Explainer};
 pub use opens::Opens;
 pub use request::{Request, run_request};
 pub use running::{run_in_memory, run_returning_store};
+pub use shows::Shows;
 pub use status::{
     COMMAND_LINE, DONE, MEMORY, SCENARIO, STEP, STEP_LIMIT, STORE, STREAM, end_replay, end_run,
 };

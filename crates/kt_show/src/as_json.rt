@@ -30,7 +30,8 @@ pub(crate) fn push_array<T: AsJson>(out: &mut Draft, items: &[T]) -> Result<(), 
     for item in items {
         item.push_to(out)?;
     }
-    out.end_array()
+    out.end_array()?;
+    Ok(())
 }
 
 /// A member with the JSON value of this.
@@ -52,7 +53,7 @@ pub(crate) fn push_optional<T: AsJson>(
     value: Option<&T>,
 ) -> Result<(), AllocError>
     ensures { OnOk result (out.new ≡ out.old
-        ++ key name.now ∷ json_tokens (json_or_null T.json_of (option_copied value))) }
+        ++ key name.now ∷ json_tokens (json_or_null T.json_of (option_copied value.entry))) }
 {
     out.key(name)?;
     match value {

@@ -21,7 +21,8 @@ impl AsJson for Told {
         push_member(out, "begun_by", &self.initiator)?;
         out.key("verdict")?;
         out.string(word_of(self.verdict))?;
-        out.end_object()
+        out.end_object()?;
+        Ok(())
     }
 }
 
@@ -44,7 +45,8 @@ pub(crate) fn push_open(out: &mut Draft, told: &[Told]) -> Result<(), AllocError
     for one in told {
         push_if_open(out, *one)?;
     }
-    out.end_array()
+    out.end_array()?;
+    Ok(())
 }
 
 fn push_if_open(out: &mut Draft, one: Told) -> Result<(), AllocError>

@@ -1,6 +1,6 @@
 //! What a store holds of a node, as JSON.
 
-ghost use Rattle.std.specs.Prelude.{◌≡◌, ◌++◌, OnOk};
+ghost use Rattle.std.specs.Prelude.{◌≡◌, ◌∷◌, ◌++◌, OnOk};
 ghost use Rattle.json.specs.Token.{key};
 ghost use Rattle.json.specs.Tree.{json_tokens};
 ghost use Rattle.kt_show.specs.ShownJson.{checkpoint_json, node_json, served_json, shard_json, state_member};
@@ -23,7 +23,8 @@ impl AsJson for NodeRow {
         push_member(out, "incarnation", &self.incarnation)?;
         push_optional(out, "permanent", self.permanent.as_ref())?;
         push_optional(out, "tentative", self.tentative.as_ref())?;
-        out.end_object()
+        out.end_object()?;
+        Ok(())
     }
 }
 
@@ -34,7 +35,8 @@ impl AsJson for Tentative {
         out.begin_object()?;
         push_member(out, "instance", &self.instance)?;
         push_member(out, "checkpoint", &self.checkpoint)?;
-        out.end_object()
+        out.end_object()?;
+        Ok(())
     }
 }
 
@@ -45,7 +47,8 @@ impl AsJson for Ckpt {
         out.begin_object()?;
         push_member(out, "acts", &self.line_len())?;
         push_state(out, self.state())?;
-        out.end_object()
+        out.end_object()?;
+        Ok(())
     }
 }
 
@@ -71,7 +74,8 @@ impl AsJson for WorkerState {
         push_optional(out, "unanswered", self.asked())?;
         push_member(out, "last_answer_was_none", &self.was_none())?;
         push_list(out, "values", self.variables())?;
-        out.end_object()
+        out.end_object()?;
+        Ok(())
     }
 }
 
@@ -83,7 +87,8 @@ impl AsJson for ShardState {
         push_list(out, "tuples", self.bag())?;
         push_list(out, "waiting", self.waiting())?;
         push_list(out, "served", self.cached())?;
-        out.end_object()
+        out.end_object()?;
+        Ok(())
     }
 }
 
@@ -96,7 +101,8 @@ impl AsJson for (u8, Request) {
         push_member(out, "worker", &NodeId::Worker(self.0))?;
         push_member(out, "request", &self.1.number)?;
         push_member(out, "operation", &self.1.op)?;
-        out.end_object()
+        out.end_object()?;
+        Ok(())
     }
 }
 
@@ -110,6 +116,7 @@ impl AsJson for (u8, CachedReply) {
         push_member(out, "request", &self.1.request.number)?;
         push_member(out, "operation", &self.1.request.op)?;
         push_member(out, "answer", &self.1.answer)?;
-        out.end_object()
+        out.end_object()?;
+        Ok(())
     }
 }

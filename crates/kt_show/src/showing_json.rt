@@ -26,14 +26,14 @@ use std::alloc::{AllocError, Global};
 ///   `incarnation`. Its `permanent` checkpoint is null where that is the initial one, of which nothing is stored. Its
 ///   `tentative` one is null where there is none, else an object of its `instance`'s number and the `checkpoint`.
 /// - A checkpoint: `acts`, how many acts the node's log had, and either `worker` or `shard`, what the node held.
-/// - `worker`: the number of its `next_command`, counted from 1, and that of its `last_request`, 0 before the first. Then
-///   `unanswered`, the operation of that request where it is unanswered, else null; `last_answer_was_none`, true or
-///   false; and `values`, an array of the values of its variables.
+/// - `worker`: the number of its `next_command`, counted from 1, and that of its `last_request`, 0 before the first.
+///   Then `unanswered`, the operation of that request where it is unanswered, else null; `last_answer_was_none`, true
+///   or false; and `values`, an array of the values of its variables.
 /// - `shard`: `tuples`, an array of tuples in order of arrival, and `waiting` and `served`, the requests that wait and
 ///   those that were served last, each an array of objects by rising worker. Such a one has the `worker`, the number of
 ///   its `request`, and the `operation`; one that was served has the `answer` too.
-/// - A tuple: an array of its values. An int is a number, of up to 19 digits and a sign, a str a string, and a bool true
-///   or false. A template: an array of its places, of which an actual is its value, and a formal an object, as
+/// - A tuple: an array of its values. An int is a number, of up to 19 digits and a sign, a str a string, and a bool
+///   true or false. A template: an array of its places, of which an actual is its value, and a formal an object, as
 ///   `{"formal":"int"}`.
 /// - An operation: its `word`, and its `tuple` where that is `out`, else its `template`. An answer: its `word`, and its
 ///   `tuple` where that is `got`.
@@ -41,8 +41,8 @@ use std::alloc::{AllocError, Global};
 ///   `begun_by`, and its `verdict`, `"open"`, `"yes"` or `"no"`.
 /// - `open`: an array of the numbers of those that are open.
 ///
-/// A store in which nothing was ever stored has three empty arrays. Refusals, memory and time are as of `show`, and so is
-/// what is left out.
+/// A store in which nothing was ever stored has three empty arrays. Refusals, memory and time are as of `show`, and so
+/// is what is left out.
 pub fn show_json<S: CkptStore>(alloc: Global, store: &mut S) -> Result<Vec<u8>, StoreError>
     ensures text { IsTrue (S.is_honest store.new)
         → IfOk result (λ text. IsTextOf text.items (shown_json (S.content store.old))) }
@@ -127,9 +127,10 @@ fn push_held(out: &mut Draft, held: &Held) -> Result<(), AllocError>
         ≡ out.old ++ json_tokens (held_json held.now.rows.items held.now.told.items)) }
 {
     out.begin_object()?;
-    push_list(out, "nodes", &held.rows)?;
-    push_list(out, "instances", &held.told)?;
+    push_list(out, "nodes", held.rows.as_slice())?;
+    push_list(out, "instances", held.told.as_slice())?;
     out.key("open")?;
-    push_open(out, &held.told)?;
-    out.end_object()
+    push_open(out, held.told.as_slice())?;
+    out.end_object()?;
+    Ok(())
 }

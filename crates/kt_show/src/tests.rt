@@ -50,7 +50,7 @@ open: instance 2 begun by w1
 ";
 
 /// The same as JSON, in pieces.
-const SHOWN_AS_JSON: [&str; 12] = [
+const SHOWN_AS_JSON: [&str; 13] = [
     r#"{"nodes":[{"name":"w1","incarnation":1,"permanent":{"acts":1,"worker":"#,
     r#"{"next_command":2,"last_request":1,"unanswered":{"word":"out","tuple":["a",1]},"#,
     r#""last_answer_was_none":false,"values":[]}},"#,
@@ -60,7 +60,8 @@ const SHOWN_AS_JSON: [&str; 12] = [
     r#"{"name":"s1","incarnation":2,"permanent":null,"#,
     r#""tentative":{"instance":2,"checkpoint":{"acts":2,"shard":{"tuples":[["a",1],["b"]],"#,
     r#""waiting":[{"worker":"w1","request":2,"operation":{"word":"in","template":["a",{"formal":"int"}]}}],"#,
-    r#""served":[{"worker":"w1","request":1,"operation":{"word":"out","tuple":["a",1]},"answer":{"word":"done"}}]}}}}],"#,
+    r#""served":[{"worker":"w1","request":1,"operation":{"word":"out","tuple":["a",1]},"#,
+    r#""answer":{"word":"done"}}]}}}}],"#,
     r#""instances":[{"number":1,"begun_by":"w1","verdict":"yes"},{"number":2,"begun_by":"w1","verdict":"open"},"#,
     r#"{"number":3,"begun_by":"s1","verdict":"no"}],"open":[2]}"#,
 ];

@@ -1,8 +1,8 @@
 //! The program over an opener that notes what it is asked.
-//! Cited by whoever calls the trait `Carries` or `Opens`.
+//! Cited by whoever calls the trait `Carries`, `Opens` or `Shows`.
 use crate::program::run_program;
 use crate::tests::{PUT_AND_TAKE, PUT_AND_TAKE_REPORT};
-use kt_command::{Carries, Opens};
+use kt_command::{Carries, Opens, Shows};
 use kt_scene::{Sink, Source};
 use kt_sql::{SqlOpenError, SqlStore};
 use sqlite::{Connection, MemStore};
@@ -33,6 +33,17 @@ impl Opens<SqlStore<MemStore>, SqlOpenError> for Noting<'_> {
 
     fn put_away(store: SqlStore<MemStore>) {
         drop(store);
+    }
+}
+
+/// A copy of the store at that path is a fresh one too.
+impl Shows<SqlStore<MemStore>, SqlOpenError> for Noting<'_> {
+    ghost use Rattle.std.specs.Prelude.{⊤};
+
+    ghost gives_copy = { λ _ _ _. ⊤ };
+
+    fn open_copy(self, path: &str) -> Result<SqlStore<MemStore>, SqlOpenError> {
+        self.open(path)
     }
 }
 
