@@ -6,11 +6,14 @@
 //!
 //! - Contract: `run_program`, clause `told`: words without a fault do their command over the store that they name, and
 //!   the exit status says how it ended; what `linda_kt` writes is what that command may write.
-//! - Stands on: kt_tuple, kt_store, kt_sql_tables, kt_sql, kt_scene, kt_stage, kt_run, kt_command; of the kit: sqlite,
-//!   clap
+//! - Stands on: kt_tuple, kt_store, kt_sql_tables, kt_sql, kt_scene, kt_stage, kt_run, kt_words, kt_command; of the kit: sqlite,
+//!   clap, os, thiserror
 //! - Begin in: `program.rt`; the grammar of the words is in `grammar.rt`, and what they ask in `words.rt`.
 #![tactic(auto)]
 
+mod copies;
+#[cfg(test)]
+mod copies_tests;
 mod files;
 mod grammar;
 #[cfg(test)]

@@ -1,8 +1,8 @@
 //! The program over an opener that notes what it is asked.
-//! Cited by whoever calls the trait `Carries` or `Opens`.
+//! Cited by whoever calls the trait `Carries`, `Opens` or `Shows`.
 use crate::program::run_program;
 use crate::tests::{NOBODY, PUT_AND_TAKE, PUT_AND_TAKE_REPORT};
-use kt_command::{Carries, Opens, Texts};
+use kt_command::{Carries, Opens, Shows, Texts};
 use kt_scene::{Sink, Source};
 use kt_sql::{SqlOpenError, SqlStore};
 use sqlite::{Connection, MemStore};
@@ -48,6 +48,17 @@ impl<'a> Texts<&'a [u8], &'static str> for Noting<'a> {
         } else {
             Err("no such file")
         }
+    }
+}
+
+/// A copy of the store at that path is a fresh one too.
+impl Shows<SqlStore<MemStore>, SqlOpenError> for Noting<'_> {
+    ghost use Rattle.std.specs.Prelude.{⊤};
+
+    ghost gives_copy = { λ _ _ _. ⊤ };
+
+    fn open_copy(self, path: &str) -> Result<SqlStore<MemStore>, SqlOpenError> {
+        self.open(path)
     }
 }
 
