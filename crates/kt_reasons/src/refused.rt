@@ -12,11 +12,11 @@ use std::fmt::Write;
 /// none. Lines that begin with `#` are counted as lines, and are no steps.
 fn line_of_step(text: &[u8], at: usize) -> Option<(usize, &[u8])> {
     let mut rest = text;
-    let mut number = 0usize;
     // How many steps came before; none yet before the line `steps`.
     let mut steps: Option<usize> = None;
-    while let Some((line, behind)) = line_at(rest) {
-        number = number.saturating_add(1);
+    // A text has no more lines than bytes.
+    for place in 0..text.len() {
+        let (line, behind) = line_at(rest)?;
         rest = behind;
         let is_remark = line.first() == Some(&b'#');
         match steps {
@@ -28,7 +28,7 @@ fn line_of_step(text: &[u8], at: usize) -> Option<(usize, &[u8])> {
             Some(count) if !is_remark => {
                 let count = count.saturating_add(1);
                 if count == at {
-                    return Some((number, line));
+                    return Some((place + 1, line));
                 }
                 steps = Some(count);
             }
