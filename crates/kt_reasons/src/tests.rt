@@ -3,7 +3,7 @@
 use crate::explain_step;
 use kt_core::World;
 use kt_store::MemStore;
-use kt_text::{WorkKind, read_scene};
+use kt_text::{Scenario, WorkKind, read_scene};
 use std::test::Fail;
 
 /// One worker that puts and takes at one shard, and a second that takes at once.
@@ -85,9 +85,9 @@ fn steps_that_are_refused(rt: HostRuntime) -> Result<(), Fail> {
     let alloc = rt.alloc();
     for (before, refused, expected) in ROWS {
         let text = format!(in alloc; "{SCENE}{before}{refused}\nend\n")?;
-        let scenario = read_scene(alloc, text.as_bytes(), WorkKind::Steps)?;
-        let steps = scenario.work.steps();
-        let opened = World::open(alloc, scenario.scene, MemStore::new(alloc));
+        let Scenario { scene, work } = read_scene(alloc, text.as_bytes(), WorkKind::Steps)?;
+        let steps = work.steps();
+        let opened = World::open(alloc, scene, MemStore::new(alloc));
         let mut world = opened.ok().ok_or("a world")?;
         let mut at = 0usize;
         let mut said = None;

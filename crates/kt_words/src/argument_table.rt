@@ -1,12 +1,16 @@
 //! The arguments of the commands.
 //! Cited by command_table.rt.
 
+use crate::texts::{
+    COMMAND_HELP, JOURNAL_HELP, NUMBER_HELP, SCENARIO_HELP, SHELL_HELP, STORE_FILE_HELP,
+    STORE_JOURNAL_HELP,
+};
 use crate::words::ArgumentWords;
 
 /// The scenario.
 pub const SCENARIO: ArgumentWords = ArgumentWords {
     name: "SCENARIO",
-    help: "The file with the scenario; standard input where it is - or left out",
+    help: SCENARIO_HELP,
     is_required: false,
     values: &[],
 };
@@ -14,7 +18,7 @@ pub const SCENARIO: ArgumentWords = ArgumentWords {
 /// The journal of `migrate`.
 pub const STORE_JOURNAL: ArgumentWords = ArgumentWords {
     name: "SCENARIO",
-    help: "The file with the journal; standard input where it is - or left out",
+    help: STORE_JOURNAL_HELP,
     is_required: false,
     values: &[],
 };
@@ -22,7 +26,7 @@ pub const STORE_JOURNAL: ArgumentWords = ArgumentWords {
 /// The store of `show`.
 pub const STORE_FILE: ArgumentWords = ArgumentWords {
     name: "FILE",
-    help: "The store",
+    help: STORE_FILE_HELP,
     is_required: true,
     values: &[],
 };
@@ -30,7 +34,7 @@ pub const STORE_FILE: ArgumentWords = ArgumentWords {
 /// The number of `explain`.
 pub const NUMBER: ArgumentWords = ArgumentWords {
     name: "NUMBER",
-    help: "The number or the name, as in `line 4: 3 Tuple`, or the exit status",
+    help: NUMBER_HELP,
     is_required: true,
     values: &[],
 };
@@ -38,7 +42,7 @@ pub const NUMBER: ArgumentWords = ArgumentWords {
 /// The shell of `completion`.
 pub const SHELL: ArgumentWords = ArgumentWords {
     name: "SHELL",
-    help: "The shell",
+    help: SHELL_HELP,
     is_required: true,
     values: &["bash", "zsh", "fish"],
 };
@@ -46,7 +50,7 @@ pub const SHELL: ArgumentWords = ArgumentWords {
 /// The command of `help`.
 pub const COMMAND: ArgumentWords = ArgumentWords {
     name: "COMMAND",
-    help: "The command; the program itself where it is left out",
+    help: COMMAND_HELP,
     is_required: false,
     values: &[
         "replay",

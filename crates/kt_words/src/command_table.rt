@@ -10,6 +10,10 @@ use crate::argument_table::{COMMAND, NUMBER, SCENARIO, SHELL, STORE_FILE, STORE_
 use crate::option_table::{
     EXPLAIN, JOURNAL, JSON, JSON_OF_STORE, KEPT_STORE, OLD_STORE, RESUME, STORE,
 };
+use crate::texts::{
+    CHECK_ABOUT, COMPLETE_ABOUT, COMPLETION_ABOUT, EXPLAIN_NUMBER_ABOUT, HELP_COMMAND_ABOUT,
+    MANUAL_ABOUT, MIGRATE_ABOUT, REPLAY_ABOUT, RESUME_COMMAND_ABOUT, RUN_ABOUT, SHOW_ABOUT,
+};
 use crate::words::CommandWords;
 
 /// The program's name.
@@ -24,7 +28,7 @@ pub const VERSION: &str = "0.1.0";
 /// `replay`.
 pub const REPLAY: CommandWords = CommandWords {
     name: "replay",
-    about: "Makes the steps of the scenario and writes the report to standard output",
+    about: REPLAY_ABOUT,
     arguments: &[SCENARIO],
     options: &[STORE, EXPLAIN, JSON],
 };
@@ -32,7 +36,7 @@ pub const REPLAY: CommandWords = CommandWords {
 /// `run`.
 pub const RUN: CommandWords = CommandWords {
     name: "run",
-    about: "Runs the scenario, by a thread for each node, and writes the report to standard output",
+    about: RUN_ABOUT,
     arguments: &[SCENARIO],
     options: &[STORE, JOURNAL, RESUME, EXPLAIN, JSON],
 };
@@ -45,8 +49,7 @@ failures, so a second line that is due by then strikes as soon as it is back. --
 /// `resume`.
 pub const RESUME_COMMAND: CommandWords = CommandWords {
     name: "resume",
-    about: "Goes on from a store after the program was stopped: makes the steps of the scenario and writes the report \
-            to standard output",
+    about: RESUME_COMMAND_ABOUT,
     arguments: &[SCENARIO],
     options: &[KEPT_STORE, EXPLAIN, JSON],
 };
@@ -54,7 +57,7 @@ pub const RESUME_COMMAND: CommandWords = CommandWords {
 /// `migrate`.
 pub const MIGRATE: CommandWords = CommandWords {
     name: "migrate",
-    about: "Carries a store of version 1 over, by the journal that made it, and writes the report to standard output",
+    about: MIGRATE_ABOUT,
     arguments: &[STORE_JOURNAL],
     options: &[OLD_STORE],
 };
@@ -62,7 +65,7 @@ pub const MIGRATE: CommandWords = CommandWords {
 /// `check`.
 pub const CHECK: CommandWords = CommandWords {
     name: "check",
-    about: "Reads the scenario and does nothing: says of how many steps or fault lines it is, or which fault it has",
+    about: CHECK_ABOUT,
     arguments: &[SCENARIO],
     options: &[EXPLAIN, JSON],
 };
@@ -70,7 +73,7 @@ pub const CHECK: CommandWords = CommandWords {
 /// `complete`.
 pub const COMPLETE: CommandWords = CommandWords {
     name: "complete",
-    about: "Writes the scenario with the steps behind its own that bring it to its end",
+    about: COMPLETE_ABOUT,
     arguments: &[SCENARIO],
     options: &[],
 };
@@ -78,7 +81,7 @@ pub const COMPLETE: CommandWords = CommandWords {
 /// `show`.
 pub const SHOW: CommandWords = CommandWords {
     name: "show",
-    about: "Writes what a store holds: the checkpoints of each node, and the board",
+    about: SHOW_ABOUT,
     arguments: &[STORE_FILE],
     options: &[JSON_OF_STORE],
 };
@@ -86,7 +89,7 @@ pub const SHOW: CommandWords = CommandWords {
 /// `explain`.
 pub const EXPLAIN_NUMBER: CommandWords = CommandWords {
     name: "explain",
-    about: "Says what a number or a name means that is printed where something fails",
+    about: EXPLAIN_NUMBER_ABOUT,
     arguments: &[NUMBER],
     options: &[],
 };
@@ -94,7 +97,7 @@ pub const EXPLAIN_NUMBER: CommandWords = CommandWords {
 /// `completion`.
 pub const COMPLETION: CommandWords = CommandWords {
     name: "completion",
-    about: "Writes a script by which a shell completes the words of this program",
+    about: COMPLETION_ABOUT,
     arguments: &[SHELL],
     options: &[],
 };
@@ -102,7 +105,7 @@ pub const COMPLETION: CommandWords = CommandWords {
 /// `manual`.
 pub const MANUAL: CommandWords = CommandWords {
     name: "manual",
-    about: "Writes the manual page, for man",
+    about: MANUAL_ABOUT,
     arguments: &[],
     options: &[],
 };
@@ -110,7 +113,7 @@ pub const MANUAL: CommandWords = CommandWords {
 /// `help`.
 pub const HELP_COMMAND: CommandWords = CommandWords {
     name: "help",
-    about: "Prints the help of the program or of a command",
+    about: HELP_COMMAND_ABOUT,
     arguments: &[COMMAND],
     options: &[],
 };

@@ -23,6 +23,7 @@ mod status_table;
 #[cfg(test)]
 mod tests;
 mod text;
+mod texts;
 mod words;
 mod zsh;
 
@@ -37,4 +38,11 @@ pub use option_table::{
 };
 pub use page::manual;
 pub use shell::Shell;
+pub use texts::{
+    CHECK_ABOUT, COMMAND_HELP, COMPLETE_ABOUT, COMPLETION_ABOUT, EXPLAIN_HELP,
+    EXPLAIN_NUMBER_ABOUT, HELP_COMMAND_ABOUT, HELP_HELP, JOURNAL_HELP, JSON_HELP,
+    JSON_OF_STORE_HELP, KEPT_STORE_HELP, MANUAL_ABOUT, MIGRATE_ABOUT, NUMBER_HELP, OLD_STORE_HELP,
+    REPLAY_ABOUT, RESUME_COMMAND_ABOUT, RESUME_HELP, RUN_ABOUT, SCENARIO_HELP, SHELL_HELP,
+    SHOW_ABOUT, STORE_FILE_HELP, STORE_HELP, STORE_JOURNAL_HELP, VERSION_FLAG_HELP,
+};
 pub use words::{ArgumentWords, CommandWords, OptionWords, ValueKind};

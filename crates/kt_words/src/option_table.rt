@@ -1,13 +1,17 @@
 //! The options of the commands.
 //! Cited by command_table.rt.
 
+use crate::texts::{
+    EXPLAIN_HELP, HELP_HELP, JOURNAL_HELP, JSON_HELP, JSON_OF_STORE_HELP, KEPT_STORE_HELP,
+    OLD_STORE_HELP, RESUME_HELP, STORE_HELP, VERSION_FLAG_HELP,
+};
 use crate::words::OptionWords;
 
 /// `--store FILE` of a command that begins.
 pub const STORE: OptionWords = OptionWords {
     long: "store",
     value: Some("FILE"),
-    help: "Keeps the checkpoints in FILE, which is absent, empty or a fresh store",
+    help: STORE_HELP,
     is_required: false,
 };
 
@@ -15,7 +19,7 @@ pub const STORE: OptionWords = OptionWords {
 pub const KEPT_STORE: OptionWords = OptionWords {
     long: "store",
     value: Some("FILE"),
-    help: "The store to go on from; one that is absent, empty or fresh was stopped before its first write",
+    help: KEPT_STORE_HELP,
     is_required: true,
 };
 
@@ -23,7 +27,7 @@ pub const KEPT_STORE: OptionWords = OptionWords {
 pub const OLD_STORE: OptionWords = OptionWords {
     long: "store",
     value: Some("FILE"),
-    help: "The store of version 1, which holds what the journal makes and nothing else",
+    help: OLD_STORE_HELP,
     is_required: true,
 };
 
@@ -31,7 +35,7 @@ pub const OLD_STORE: OptionWords = OptionWords {
 pub const JOURNAL: OptionWords = OptionWords {
     long: "journal",
     value: None,
-    help: "Writes the report as remarks, and then the steps that were made, as a scenario for replay or resume",
+    help: JOURNAL_HELP,
     is_required: false,
 };
 
@@ -39,7 +43,7 @@ pub const JOURNAL: OptionWords = OptionWords {
 pub const RESUME: OptionWords = OptionWords {
     long: "resume",
     value: None,
-    help: "Goes on from what FILE holds, after the program was stopped; it need not be fresh then",
+    help: RESUME_HELP,
     is_required: false,
 };
 
@@ -47,7 +51,7 @@ pub const RESUME: OptionWords = OptionWords {
 pub const EXPLAIN: OptionWords = OptionWords {
     long: "explain",
     value: None,
-    help: "Says behind the line of a fault why it came, as on a terminal without the flag, and behind a report what it came to",
+    help: EXPLAIN_HELP,
     is_required: false,
 };
 
@@ -55,7 +59,7 @@ pub const EXPLAIN: OptionWords = OptionWords {
 pub const JSON: OptionWords = OptionWords {
     long: "json",
     value: None,
-    help: "Says what --explain says as one JSON object on a line",
+    help: JSON_HELP,
     is_required: false,
 };
 
@@ -63,7 +67,7 @@ pub const JSON: OptionWords = OptionWords {
 pub const JSON_OF_STORE: OptionWords = OptionWords {
     long: "json",
     value: None,
-    help: "Writes what the store holds as JSON",
+    help: JSON_OF_STORE_HELP,
     is_required: false,
 };
 
@@ -71,7 +75,7 @@ pub const JSON_OF_STORE: OptionWords = OptionWords {
 pub const HELP: OptionWords = OptionWords {
     long: "help",
     value: None,
-    help: "Print help",
+    help: HELP_HELP,
     is_required: false,
 };
 
@@ -79,6 +83,6 @@ pub const HELP: OptionWords = OptionWords {
 pub const VERSION_FLAG: OptionWords = OptionWords {
     long: "version",
     value: None,
-    help: "Print version",
+    help: VERSION_FLAG_HELP,
     is_required: false,
 };

@@ -12,9 +12,10 @@ ghost use Rattle.linda_kt.specs.Grammar.{scenario_rule, show_shape, store_rule, 
 
 use clap::{Arg, ArgAction};
 use kt_words::{
-    ABOUT, ArgumentWords, CHECK, COMPLETE, COMPLETION, EXPLAIN, EXPLAIN_NUMBER, FAULT_LINES, JOURNAL, JSON, JSON_OF_STORE, KEPT_STORE,
-    MANUAL, MIGRATE, NUMBER, OLD_STORE, REPLAY, RESUME, RESUME_COMMAND, RUN, SCENARIO, SHELL, SHOW, STORE, STORE_FILE,
-    VERSION,
+    ABOUT, CHECK_ABOUT, COMPLETE_ABOUT, COMPLETION_ABOUT, EXPLAIN_HELP, EXPLAIN_NUMBER_ABOUT,
+    FAULT_LINES, JOURNAL_HELP, JSON_HELP, JSON_OF_STORE_HELP, KEPT_STORE_HELP, MANUAL_ABOUT,
+    MIGRATE_ABOUT, NUMBER_HELP, OLD_STORE_HELP, REPLAY_ABOUT, RESUME_COMMAND_ABOUT, RESUME_HELP,
+    RUN_ABOUT, SCENARIO_HELP, SHELL_HELP, SHOW_ABOUT, STORE_FILE_HELP, STORE_HELP, VERSION,
 };
 use std::alloc::{AllocError, Global};
 
@@ -23,7 +24,7 @@ pub(crate) fn command_line<'a>(alloc: Global) -> Result<clap::Command<'a>, Alloc
     ensures { IfOk result (λ c. app_of c ≡ command_line_app) }
 {
     let completion = completion_command(alloc)?;
-    let manual = clap::Command::new(alloc, "manual").about(MANUAL.about);
+    let manual = clap::Command::new(alloc, "manual").about(MANUAL_ABOUT);
     telling_commands(alloc)?
         .subcommand(completion)?
         .subcommand(manual)
@@ -84,12 +85,12 @@ fn replay_command<'a>(alloc: Global) -> Result<clap::Command<'a>, AllocError>
     ensures shape { IfOk result (λ c. shape_of c ≡ replay_shape) }
     ensures local { IfOk result (λ c. (fields_of c).has_globals ≡ false) }
 {
-    clap::Command::new(alloc, "replay")
-        .about(REPLAY.about)
+    let replay = clap::Command::new(alloc, "replay").about(REPLAY_ABOUT);
+    replay
         .arg(scenario_argument(alloc))?
         .arg(store_option(alloc))?
         .arg(explain_flag(alloc))?
-        .arg(json_flag(alloc, JSON.help))
+        .arg(json_flag(alloc, JSON_HELP))
 }
 
 /// `resume` with its option, which must stand, and its flag.
@@ -97,12 +98,12 @@ fn resume_command<'a>(alloc: Global) -> Result<clap::Command<'a>, AllocError>
     ensures shape { IfOk result (λ c. shape_of c ≡ resume_shape) }
     ensures local { IfOk result (λ c. (fields_of c).has_globals ≡ false) }
 {
-    clap::Command::new(alloc, "resume")
-        .about(RESUME_COMMAND.about)
+    let resume = clap::Command::new(alloc, "resume").about(RESUME_COMMAND_ABOUT);
+    resume
         .arg(scenario_argument(alloc))?
         .arg(kept_store_option(alloc))?
         .arg(explain_flag(alloc))?
-        .arg(json_flag(alloc, JSON.help))
+        .arg(json_flag(alloc, JSON_HELP))
 }
 
 /// `run` with its option and its flags.
@@ -110,15 +111,15 @@ fn run_command<'a>(alloc: Global) -> Result<clap::Command<'a>, AllocError>
     ensures shape { IfOk result (λ c. shape_of c ≡ run_shape) }
     ensures local { IfOk result (λ c. (fields_of c).has_globals ≡ false) }
 {
-    clap::Command::new(alloc, "run")
-        .about(RUN.about)
-        .after_help(FAULT_LINES)
-        .arg(scenario_argument(alloc))?
+    let run = clap::Command::new(alloc, "run")
+        .about(RUN_ABOUT)
+        .after_help(FAULT_LINES);
+    run.arg(scenario_argument(alloc))?
         .arg(store_option(alloc))?
         .arg(journal_flag(alloc))?
         .arg(resume_flag(alloc))?
         .arg(explain_flag(alloc))?
-        .arg(json_flag(alloc, JSON.help))
+        .arg(json_flag(alloc, JSON_HELP))
 }
 
 /// `migrate` with its option, which must stand.
@@ -126,8 +127,8 @@ fn migrate_command<'a>(alloc: Global) -> Result<clap::Command<'a>, AllocError>
     ensures shape { IfOk result (λ c. shape_of c ≡ migrate_shape) }
     ensures local { IfOk result (λ c. (fields_of c).has_globals ≡ false) }
 {
-    clap::Command::new(alloc, "migrate")
-        .about(MIGRATE.about)
+    let migrate = clap::Command::new(alloc, "migrate").about(MIGRATE_ABOUT);
+    migrate
         .arg(scenario_argument(alloc))?
         .arg(old_store_option(alloc))
 }
@@ -137,11 +138,11 @@ fn check_command<'a>(alloc: Global) -> Result<clap::Command<'a>, AllocError>
     ensures shape { IfOk result (λ c. shape_of c ≡ check_shape) }
     ensures local { IfOk result (λ c. (fields_of c).has_globals ≡ false) }
 {
-    clap::Command::new(alloc, "check")
-        .about(CHECK.about)
+    let check = clap::Command::new(alloc, "check").about(CHECK_ABOUT);
+    check
         .arg(scenario_argument(alloc))?
         .arg(explain_flag(alloc))?
-        .arg(json_flag(alloc, JSON.help))
+        .arg(json_flag(alloc, JSON_HELP))
 }
 
 /// `complete`.
@@ -149,9 +150,8 @@ fn complete_command<'a>(alloc: Global) -> Result<clap::Command<'a>, AllocError>
     ensures shape { IfOk result (λ c. shape_of c ≡ complete_shape) }
     ensures local { IfOk result (λ c. (fields_of c).has_globals ≡ false) }
 {
-    clap::Command::new(alloc, "complete")
-        .about(COMPLETE.about)
-        .arg(scenario_argument(alloc))
+    let complete = clap::Command::new(alloc, "complete").about(COMPLETE_ABOUT);
+    complete.arg(scenario_argument(alloc))
 }
 
 /// `show` with its file and its flag.
@@ -159,10 +159,9 @@ fn show_command<'a>(alloc: Global) -> Result<clap::Command<'a>, AllocError>
     ensures shape { IfOk result (λ c. shape_of c ≡ show_shape) }
     ensures local { IfOk result (λ c. (fields_of c).has_globals ≡ false) }
 {
-    clap::Command::new(alloc, "show")
-        .about(SHOW.about)
-        .arg(word(alloc, "store", STORE_FILE))?
-        .arg(json_flag(alloc, JSON_OF_STORE.help))
+    let show = clap::Command::new(alloc, "show").about(SHOW_ABOUT);
+    show.arg(word(alloc, "store", "FILE", STORE_FILE_HELP))?
+        .arg(json_flag(alloc, JSON_OF_STORE_HELP))
 }
 
 /// `explain` with its word.
@@ -170,9 +169,8 @@ fn explain_command<'a>(alloc: Global) -> Result<clap::Command<'a>, AllocError>
     ensures shape { IfOk result (λ c. shape_of c ≡ explain_shape) }
     ensures local { IfOk result (λ c. (fields_of c).has_globals ≡ false) }
 {
-    clap::Command::new(alloc, "explain")
-        .about(EXPLAIN_NUMBER.about)
-        .arg(word(alloc, "meaning", NUMBER))
+    let explain = clap::Command::new(alloc, "explain").about(EXPLAIN_NUMBER_ABOUT);
+    explain.arg(word(alloc, "meaning", "NUMBER", NUMBER_HELP))
 }
 
 /// `completion` with its shell.
@@ -180,9 +178,8 @@ fn completion_command<'a>(alloc: Global) -> Result<clap::Command<'a>, AllocError
     ensures shape { IfOk result (λ c. shape_of c ≡ completion_shape) }
     ensures local { IfOk result (λ c. (fields_of c).has_globals ≡ false) }
 {
-    clap::Command::new(alloc, "completion")
-        .about(COMPLETION.about)
-        .arg(word(alloc, "shell", SHELL))
+    let completion = clap::Command::new(alloc, "completion").about(COMPLETION_ABOUT);
+    completion.arg(word(alloc, "shell", "SHELL", SHELL_HELP))
 }
 
 /// The file of a scenario.
@@ -191,19 +188,19 @@ fn scenario_argument<'a>(alloc: Global) -> Arg<'a>
     ensures local { result.global ≡ false }
 {
     Arg::new(alloc, "scenario")
-        .value_name(SCENARIO.name)
-        .help(SCENARIO.help)
+        .value_name("SCENARIO")
+        .help(SCENARIO_HELP)
 }
 
 /// A word that must stand.
-fn word<'a>(alloc: Global, id: &'a str, words: ArgumentWords) -> Arg<'a>
+fn word<'a>(alloc: Global, id: &'a str, name: &'a str, help: &'a str) -> Arg<'a>
     ensures rule { rule_of result ≡ word_rule id.now }
     ensures local { result.global ≡ false }
 {
     Arg::new(alloc, id)
-        .value_name(words.name)
+        .value_name(name)
         .required(true)
-        .help(words.help)
+        .help(help)
 }
 
 /// `--json`.
@@ -225,7 +222,7 @@ fn journal_flag<'a>(alloc: Global) -> Arg<'a>
     Arg::new(alloc, "journal")
         .long("journal")
         .action(ArgAction::SetTrue)
-        .help(JOURNAL.help)
+        .help(JOURNAL_HELP)
 }
 
 /// `--resume`.
@@ -236,7 +233,7 @@ fn resume_flag<'a>(alloc: Global) -> Arg<'a>
     Arg::new(alloc, "resume")
         .long("resume")
         .action(ArgAction::SetTrue)
-        .help(RESUME.help)
+        .help(RESUME_HELP)
 }
 
 /// `--explain`.
@@ -247,7 +244,7 @@ fn explain_flag<'a>(alloc: Global) -> Arg<'a>
     Arg::new(alloc, "explain")
         .long("explain")
         .action(ArgAction::SetTrue)
-        .help(EXPLAIN.help)
+        .help(EXPLAIN_HELP)
 }
 
 /// `--store FILE`.
@@ -258,7 +255,7 @@ fn store_option<'a>(alloc: Global) -> Arg<'a>
     Arg::new(alloc, "store")
         .long("store")
         .value_name("FILE")
-        .help(STORE.help)
+        .help(STORE_HELP)
 }
 
 /// `--store FILE` of `resume`.
@@ -270,7 +267,7 @@ fn kept_store_option<'a>(alloc: Global) -> Arg<'a>
         .long("store")
         .value_name("FILE")
         .required(true)
-        .help(KEPT_STORE.help)
+        .help(KEPT_STORE_HELP)
 }
 
 /// `--store FILE` of `migrate`.
@@ -282,7 +279,7 @@ fn old_store_option<'a>(alloc: Global) -> Arg<'a>
         .long("store")
         .value_name("FILE")
         .required(true)
-        .help(OLD_STORE.help)
+        .help(OLD_STORE_HELP)
 }
 
 /// The program's name, what it is, and its version.

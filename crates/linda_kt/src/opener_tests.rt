@@ -96,7 +96,8 @@ impl Carries<Connection<MemStore>, SqlOpenError> for Noting<'_> {
 }
 
 /// What the name means.
-const NOT_FRESH: &str = "store NotFresh: the file holds something of an earlier command: take a new file, or go on \
+const NOT_FRESH: &str =
+    "store NotFresh: the file holds something of an earlier command: take a new file, or go on \
 with `resume`\n";
 
 /// Words, how often the opener of `a.db` is asked, the output, the line on the errors, and the status.

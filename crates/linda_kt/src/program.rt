@@ -14,8 +14,8 @@ use crate::words::{read_words, refuse_bytes};
 use clap::Error;
 use clap::error::ErrorKind;
 use kt_command::{
-    COMMAND_LINE, Carries, DONE, MEMORY, Opens, STREAM, Shows, Terminals, Texts, run_request, texts_of,
-    words_behind,
+    COMMAND_LINE, Carries, DONE, MEMORY, Opens, STREAM, Shows, Terminals, Texts, run_request,
+    texts_of, words_behind,
 };
 use kt_scene::{Outcome, Sink, Source};
 use kt_sql::{SqlOpenError, SqlStore};
@@ -38,7 +38,10 @@ pub fn run_arguments<
     G: Display + Drop,
     X: Read + Drop,
     Y: Display + Drop,
-    O: Opens<SqlStore<D>, SqlOpenError> + Carries<C, SqlOpenError> + Shows<SqlStore<D>, G> + Texts<X, Y>,
+    O: Opens<SqlStore<D>, SqlOpenError>
+        + Carries<C, SqlOpenError>
+        + Shows<SqlStore<D>, G>
+        + Texts<X, Y>,
     T: Threads + Wait + Sync,
     R: Read,
     W: Write,
@@ -94,7 +97,10 @@ fn run_texts<
     G: Display + Drop,
     X: Read + Drop,
     Y: Display + Drop,
-    O: Opens<SqlStore<D>, SqlOpenError> + Carries<C, SqlOpenError> + Shows<SqlStore<D>, G> + Texts<X, Y>,
+    O: Opens<SqlStore<D>, SqlOpenError>
+        + Carries<C, SqlOpenError>
+        + Shows<SqlStore<D>, G>
+        + Texts<X, Y>,
     T: Threads + Wait + Sync,
     R: Read,
     W: Write,
@@ -144,7 +150,10 @@ pub fn run_program<
     G: Display + Drop,
     X: Read + Drop,
     Y: Display + Drop,
-    O: Opens<SqlStore<D>, SqlOpenError> + Carries<C, SqlOpenError> + Shows<SqlStore<D>, G> + Texts<X, Y>,
+    O: Opens<SqlStore<D>, SqlOpenError>
+        + Carries<C, SqlOpenError>
+        + Shows<SqlStore<D>, G>
+        + Texts<X, Y>,
     T: Threads + Wait + Sync,
     R: Read,
     W: Write,
