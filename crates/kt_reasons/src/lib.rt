@@ -12,8 +12,6 @@ mod missing;
 mod names;
 mod reasons;
 mod refused;
-#[cfg(test)]
-mod tests;
 
 pub use faults::{explain_fault, explain_unopened};
 pub use refused::explain_step;

@@ -1,7 +1,7 @@
 //! Steps that a world refuses, with what is said of them.
 
-use crate::explain_step;
 use kt_core::World;
+use kt_reasons::explain_step;
 use kt_store::MemStore;
 use kt_text::{Scenario, WorkKind, read_scene};
 use std::test::Fail;
