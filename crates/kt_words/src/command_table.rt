@@ -41,11 +41,6 @@ pub const RUN: CommandWords = CommandWords {
     options: &[STORE, JOURNAL, RESUME, EXPLAIN, JSON],
 };
 
-/// What is said behind the help of `run`.
-pub const FAULT_LINES: &str = "\
-`fail s1 after 3` makes s1 fail once it has made 3 steps of its own, or more. Its steps are counted on through its
-failures, so a second line that is due by then strikes as soon as it is back. --explain says when each line struck.";
-
 /// `resume`.
 pub const RESUME_COMMAND: CommandWords = CommandWords {
     name: "resume",

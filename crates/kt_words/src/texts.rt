@@ -43,7 +43,8 @@ pub const REPLAY_ABOUT: &str =
 
 /// What is said of the command `run`.
 pub const RUN_ABOUT: &str =
-    "Runs the scenario, by a thread for each node, and writes the report to standard output";
+    "Runs the scenario, by a thread for each node, and writes the report to standard output; `fail s1 after 3` counts \
+     the steps of s1 alone";
 
 /// What is said of the command `resume`.
 pub const RESUME_COMMAND_ABOUT: &str =

@@ -11,7 +11,8 @@ use Rattle.clap.specs.declared.error.kind.ErrorKind.{ErrorKind}
 use Rattle.clap.specs.declared.parser.matches.ArgMatches.{ArgMatches}
 use Rattle.clap.specs.declared.parser.matches.ArgMatches.TheViews.{out-ArgMatches}
 use Rattle.kt_command.specs.Command.{Asked}
-use Rattle.linda_kt.specs.Words.{answer_of, asked_of_met, command_line_app, misfit_kinds, words_fault}
+use Rattle.linda_kt.specs.Words.{answer_of, asked_of_met, misfit_kinds, words_fault}
+use Rattle.linda_kt.specs.Grammar.{command_line_app}
 
 -- a map after a map
 fused : {X Y Z : Type 0} (g : X → Y) (f : Y → Z) (o : Option X) → option_map f (option_map g o) ≡ option_map (λ x. f (g x)) o

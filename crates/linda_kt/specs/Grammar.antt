@@ -42,8 +42,14 @@ journal_rule = record (new_rule (codes "journal")) { long = Some (codes "journal
 abbrev pub resume_rule : Rule
 resume_rule = record (new_rule (codes "resume")) { long = Some (codes "resume"); action = Some SetTrue }
 
+-- a run, without the flags that ask for an explanation
+abbrev pub unexplained_run_shape : Shape
+unexplained_run_shape = record (new_shape (codes "run")) {
+  rules = scenario_rule ∷ store_rule ∷ journal_rule ∷ resume_rule ∷ [];
+}
+
 abbrev pub run_shape : Shape
-run_shape = record (new_shape (codes "run")) {
+run_shape = record unexplained_run_shape {
   rules = scenario_rule ∷ store_rule ∷ journal_rule ∷ resume_rule ∷ explain_rule ∷ json_rule ∷ [];
 }
 

@@ -8,12 +8,13 @@ ghost use Rattle.linda_kt.specs.Grammar.{check_shape, command_line_app, complete
 ghost use Rattle.linda_kt.specs.Grammar.{explain_rule, explain_shape, journal_rule, json_rule, kept_store_rule};
 ghost use Rattle.linda_kt.specs.Grammar.{migrate_shape, old_store_rule, opening_app, program_app, reading_app};
 ghost use Rattle.linda_kt.specs.Grammar.{replay_shape, resume_rule, resume_shape, run_shape, running_app};
+ghost use Rattle.linda_kt.specs.Grammar.{unexplained_run_shape};
 ghost use Rattle.linda_kt.specs.Grammar.{scenario_rule, show_shape, store_rule, telling_app, word_rule};
 
 use clap::{Arg, ArgAction};
 use kt_words::{
     ABOUT, CHECK_ABOUT, COMPLETE_ABOUT, COMPLETION_ABOUT, EXPLAIN_HELP, EXPLAIN_NUMBER_ABOUT,
-    FAULT_LINES, JOURNAL_HELP, JSON_HELP, JSON_OF_STORE_HELP, KEPT_STORE_HELP, MANUAL_ABOUT,
+    JOURNAL_HELP, JSON_HELP, JSON_OF_STORE_HELP, KEPT_STORE_HELP, MANUAL_ABOUT,
     MIGRATE_ABOUT, NUMBER_HELP, OLD_STORE_HELP, REPLAY_ABOUT, RESUME_COMMAND_ABOUT, RESUME_HELP,
     RUN_ABOUT, SCENARIO_HELP, SHELL_HELP, SHOW_ABOUT, STORE_FILE_HELP, STORE_HELP, VERSION,
 };
@@ -111,15 +112,21 @@ fn run_command<'a>(alloc: Global) -> Result<clap::Command<'a>, AllocError>
     ensures shape { IfOk result (λ c. shape_of c ≡ run_shape) }
     ensures local { IfOk result (λ c. (fields_of c).has_globals ≡ false) }
 {
-    let run = clap::Command::new(alloc, "run")
-        .about(RUN_ABOUT)
-        .after_help(FAULT_LINES);
+    let run = unexplained_run(alloc)?;
+    run.arg(explain_flag(alloc))?
+        .arg(json_flag(alloc, JSON_HELP))
+}
+
+/// `run` without the flags that ask for an explanation.
+fn unexplained_run<'a>(alloc: Global) -> Result<clap::Command<'a>, AllocError>
+    ensures shape { IfOk result (λ c. shape_of c ≡ unexplained_run_shape) }
+    ensures local { IfOk result (λ c. (fields_of c).has_globals ≡ false) }
+{
+    let run = clap::Command::new(alloc, "run").about(RUN_ABOUT);
     run.arg(scenario_argument(alloc))?
         .arg(store_option(alloc))?
         .arg(journal_flag(alloc))?
-        .arg(resume_flag(alloc))?
-        .arg(explain_flag(alloc))?
-        .arg(json_flag(alloc, JSON_HELP))
+        .arg(resume_flag(alloc))
 }
 
 /// `migrate` with its option, which must stand.
