@@ -1,5 +1,5 @@
 -- Random faults: which ones a seed gives a scene.
--- Cited by Draws, drawing.rt, `drawing::push_drawn`, `drawing::push_random_faults`.
+-- Cited by Draws, drawing.rt, `drawing::push_drawn`, `drawing::push_random_faults`; other crates.
 use Rattle.std.specs.Prelude.{ℕ, zero, suc, ◌+◌, ◌-◌, ◌%◌, ◌==◌, nat_lt, if◌then◌else◌, List, [], ◌∷◌, length}
 use Rattle.rand_core.specs.Stream.{Stream, next_u32}
 use Rattle.rand_core.specs.Steps.{steps_u32, stream_of}

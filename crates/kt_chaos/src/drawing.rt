@@ -1,5 +1,5 @@
 //! Random fault lines of a scene, the same ones for the same seed.
-//! Cited by no other file of crates/.
+//! Cited by other crates.
 
 ghost use Rattle.std.specs.Prelude.{◌≡◌, ◌<◌, ◌≤◌, ◌++◌, length, map, All, OnOk};
 ghost use Rattle.kt_text.specs.Scenario.{IsFaultLine};
