@@ -2,4 +2,4 @@ pub mod Lists
 pub mod Marks
 pub mod Noting
 pub mod Making
-pub mod Waiting
+pub mod Listed

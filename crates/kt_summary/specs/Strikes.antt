@@ -5,7 +5,7 @@ use Rattle.kt_scenario.specs.declared.step.Step.{Step}
 use Rattle.kt_scenario.specs.declared.faults.Fault.{Fault}
 use Rattle.kt_scenario.specs.declared.faults.FaultLine.{FaultLine}
 use Rattle.kt_stage.specs.Policy.{spent_by}
-use Rattle.kt_summary.specs.declared.strikes.Struck.{Struck}
+use Rattle.kt_summary.specs.declared.strikes.FaultEnd.{FaultEnd}
 
 abbrev pub is_marked_line : Option FaultLine → Bool
 is_marked_line None = false
@@ -31,5 +31,5 @@ IsOutcome lines steps place None = (number : ℕ) → ¬ IsStruckBy lines steps 
 abbrev pub faults_asked : List FaultLine → List Fault
 faults_asked lines = map (λ (line : FaultLine). line.fault) lines
 
-abbrev pub faults_told : List Struck → List Fault
-faults_told found = map (λ (x : Struck). x.fault) found
+abbrev pub faults_told : List FaultEnd → List Fault
+faults_told found = map (λ (x : FaultEnd). x.fault) found

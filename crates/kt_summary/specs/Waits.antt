@@ -17,7 +17,7 @@ use Rattle.kt_core.specs.Lent.{shard, worker}
 use Rattle.kt_stage.specs.Policy.{unanswered, waits_in}
 use Rattle.kt_summary.specs.declared.waits.WorkerEnd.{WorkerEnd}
 use Rattle.kt_summary.specs.declared.waits.WorkerEnd.TheVariants as ends
-use Rattle.kt_summary.specs.declared.waits.Waiting.{Waiting}
+use Rattle.kt_summary.specs.declared.waits.Wait.{Wait}
 
 -- ---- how a worker stands
 
@@ -43,7 +43,7 @@ worker_end s p = end_with (script_in s.scene p) (worker s p) (option_map mode_of
 -- ---- which requests wait
 
 -- it is the number of the worker's unanswered request, and the shard is up and holds that request as waiting
-pub record IsWait (s : State) (wait : Waiting) : Type 0 where
+pub record IsWait (s : State) (wait : Wait) : Type 0 where
   pub op : Op
   pub asked : unanswered (worker s wait.worker) ≡ Some (wait.number, op)
   pub waits : IsTrue (waits_in (shard s wait.shard) (node_number wait.worker) (wait.number, op))
@@ -57,17 +57,17 @@ number_held s p q (Some r) = if waits_in (shard s q) (node_number p) r then Some
 abbrev pub number_waiting : State → NodeId → NodeId → Option ℕ
 number_waiting s p q = number_held s p q (unanswered (worker s p))
 
-abbrev pub wait_of : NodeId → NodeId → Option ℕ → List Waiting
+abbrev pub wait_of : NodeId → NodeId → Option ℕ → List Wait
 wait_of p q None = []
 wait_of p q (Some number) = record { worker = p; shard = q; number = number } ∷ []
 
-abbrev pub wait_at : State → NodeId → NodeId → List Waiting
+abbrev pub wait_at : State → NodeId → NodeId → List Wait
 wait_at s p q = wait_of p q (number_waiting s p q)
 
 -- of the request of p, at each of these nodes that holds it
-unfoldable pub waits_of : State → List NodeId → NodeId → List Waiting
+unfoldable pub waits_of : State → List NodeId → NodeId → List Wait
 waits_of s nodes p = flat_map (wait_at s p) nodes
 
 -- all of them, by their workers and then by their shards, both in node order
-abbrev pub all_waits : State → List Waiting
+abbrev pub all_waits : State → List Wait
 all_waits s = flat_map (waits_of s all_nodes) all_workers

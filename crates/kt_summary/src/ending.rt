@@ -3,7 +3,7 @@
 use crate::checks::{begun_count, push_checks};
 use crate::faults::push_faults;
 use crate::lost::{makers_of, push_losses};
-use crate::remaking::{Remade, remade};
+use crate::remaking::{Remade, remake};
 use crate::workers::push_workers;
 use kt_core::{Step, World};
 use kt_store::CkptStore;
@@ -32,7 +32,7 @@ fn remade_of_steps(
     steps: &[Step],
 ) -> Result<Option<Remade>, AllocError> {
     match scenario_of(alloc, text, WorkKind::Steps)? {
-        Some(Scenario { scene, .. }) => remade(alloc, scene, steps),
+        Some(Scenario { scene, .. }) => remake(alloc, scene, steps),
         None => Ok(None),
     }
 }
@@ -75,7 +75,7 @@ fn push_run(
     if let Some(faults) = work.into_faults() {
         push_faults(alloc, out, text, &faults, steps)?;
     }
-    remade(alloc, scene, steps)
+    remake(alloc, scene, steps)
 }
 
 /// What the world came to that these steps led to, which the text spells or whose run under its fault lines found them:

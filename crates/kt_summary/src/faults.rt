@@ -1,7 +1,7 @@
 //! Which fault lines struck, in words.
 
 use crate::names::{MAX_TOLD, Name, push_rest};
-use crate::strikes::{Struck, struck};
+use crate::strikes::{FaultEnd, struck};
 use kt_core::{FaultKind, Faults, Step};
 use kt_text::line_at;
 use std::alloc::{AllocError, Global};
@@ -23,8 +23,8 @@ pub(crate) fn push_faults(
 }
 
 /// The line, and by which step it struck.
-fn push_fault(out: &mut String, line: usize, struck: Struck) -> Result<(), AllocError> {
-    let Struck { fault, by } = struck;
+fn push_fault(out: &mut String, line: usize, struck: FaultEnd) -> Result<(), AllocError> {
+    let FaultEnd { fault, by } = struck;
     let word = match fault.kind {
         FaultKind::Fail => "fail",
         FaultKind::Check => "check",

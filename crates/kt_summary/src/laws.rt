@@ -5,14 +5,14 @@ ghost use Rattle.kt_scenario.specs.declared.step.Step.{Step};
 ghost use Rattle.kt_scenario.specs.declared.faults.FaultLine.{FaultLine};
 ghost use Rattle.kt_scenario.specs.Scene.{IsScene, is_shard, is_worker};
 ghost use Rattle.kt_model.specs.State.{State};
-ghost use Rattle.kt_summary.specs.declared.waits.Waiting.{Waiting};
+ghost use Rattle.kt_summary.specs.declared.waits.Wait.{Wait};
 ghost use Rattle.kt_summary.specs.Strikes.{IsStruckBy};
 ghost use Rattle.kt_summary.specs.Waits.{IsWait, all_waits};
 
 /// What `waiting` lists is all that waits, and nothing else.
 pub fn what_waits_is_found()
     ensures each { (s : State) → All (IsWait s) (all_waits s) }
-    ensures all { (s : State) (wait : Waiting) → IsScene s.scene → IsTrue (is_worker s.scene wait.worker)
+    ensures all { (s : State) (wait : Wait) → IsScene s.scene → IsTrue (is_worker s.scene wait.worker)
         → IsTrue (is_shard s.scene wait.shard) → IsWait s wait → Contains (all_waits s) wait }
 {}
 

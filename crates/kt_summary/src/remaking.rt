@@ -24,7 +24,7 @@ pub struct Remade {
 
 /// Makes the steps once more, from the opening of the scene's world over a store in memory. `None` where they do not
 /// lead on from there: they were made in a world that was resumed. `AllocError` where memory is wanting.
-pub fn remade(alloc: Global, scene: Scene, steps: &[Step]) -> Result<Option<Remade>, AllocError>
+pub fn remake(alloc: Global, scene: Scene, steps: &[Step]) -> Result<Option<Remade>, AllocError>
     ensures made { IfOk result (λ x. IfSome x (λ r.
         IsRemade (opening scene) steps.now r.store.content r.makers.items)) }
     ensures none { IfOk result (λ x. IsNone x

@@ -9,7 +9,7 @@ use std::alloc::{AllocError, Global};
 
 /// What came of a fault line.
 #[derive(Clone, Copy, Debug, PartialEq, Eq)]
-pub struct Struck {
+pub struct FaultEnd {
     /// What the line asks for.
     pub fault: Fault,
     /// The number of the step that it struck by, counted from 1, and 0 where it was spent before the first. `None`
@@ -21,9 +21,9 @@ pub struct Struck {
 /// spent, and with that one it is. `AllocError` where memory is wanting.
 ///
 /// For each failure and each check it looks at each line.
-pub fn struck(alloc: Global, faults: &Faults, steps: &[Step]) -> Result<Vec<Struck>, AllocError>
+pub fn struck(alloc: Global, faults: &Faults, steps: &[Step]) -> Result<Vec<FaultEnd>, AllocError>
     ensures lines { IfOk result (λ found. faults_told found.items ≡ faults_asked faults.now) }
-    ensures each { IfOk result (λ found. (place : ℕ) (x : Struck) → slice_get found.items place ≡ Some x
+    ensures each { IfOk result (λ found. (place : ℕ) (x : FaultEnd) → slice_get found.items place ≡ Some x
         → IsOutcome faults.now steps.now place x.by) }
 {
     let mut left = faults.copy(alloc)?;
@@ -45,12 +45,12 @@ fn is_kind_of_fault(step: &Step) -> bool
 }
 
 /// Each line before the first step.
-fn unstruck(alloc: Global, lines: &[FaultLine]) -> Result<Vec<Struck>, AllocError>
+fn unstruck(alloc: Global, lines: &[FaultLine]) -> Result<Vec<FaultEnd>, AllocError>
     ensures { IfOk result (λ found. found.items ≡ map unstruck lines.now) }
 {
     let mut found = Vec::new(alloc);
     for line in lines {
-        found.push(Struck {
+        found.push(FaultEnd {
             fault: line.fault,
             by: first_by(None, line.is_marked, 0),
         })?;
@@ -59,7 +59,7 @@ fn unstruck(alloc: Global, lines: &[FaultLine]) -> Result<Vec<Struck>, AllocErro
 }
 
 /// Writes the step's number to each line that is marked and had none.
-fn note(found: &mut [Struck], lines: &[FaultLine], number: u64)
+fn note(found: &mut [FaultEnd], lines: &[FaultLine], number: u64)
     requires { length lines.now ≡ length found.old }
     ensures { AreNoted lines.now number found.old found.new }
 {
@@ -69,10 +69,10 @@ fn note(found: &mut [Struck], lines: &[FaultLine], number: u64)
 }
 
 /// What came of the line once the step of this number was made, which left the line so.
-fn noted_one(struck: Struck, line: FaultLine, number: u64) -> Struck
+fn noted_one(struck: FaultEnd, line: FaultLine, number: u64) -> FaultEnd
     ensures { result ≡ noted_one line number struck }
 {
-    Struck {
+    FaultEnd {
         fault: struck.fault,
         by: first_by(struck.by, line.is_marked, number),
     }

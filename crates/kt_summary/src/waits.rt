@@ -33,7 +33,7 @@ pub enum WorkerEnd {
 
 /// An unanswered request of a worker, and a shard at which it waits.
 #[derive(Clone, Copy, Debug, PartialEq, Eq)]
-pub struct Waiting {
+pub struct Wait {
     /// The worker whose request it is.
     pub worker: NodeId,
     /// The shard that holds the request as waiting.
@@ -95,7 +95,7 @@ fn number_waiting<S: CkptStore>(world: &World<S>, worker: NodeId, shard: NodeId)
 
 /// Puts the worker's request behind the others, where it waits at the shard.
 fn push_wait<S: CkptStore>(
-    found: &mut Vec<Waiting>,
+    found: &mut Vec<Wait>,
     world: &World<S>,
     worker: NodeId,
     shard: NodeId,
@@ -103,7 +103,7 @@ fn push_wait<S: CkptStore>(
     ensures { OnOk result (found.new.items ≡ found.old.items ++ wait_at world.now.state worker shard) }
 {
     if let Some(number) = number_waiting(world, worker, shard) {
-        found.push(Waiting {
+        found.push(Wait {
             worker,
             shard,
             number,
@@ -114,7 +114,7 @@ fn push_wait<S: CkptStore>(
 
 /// Puts the worker's request behind the others, once for each of these shards at which it waits.
 fn push_waits<S: CkptStore>(
-    found: &mut Vec<Waiting>,
+    found: &mut Vec<Wait>,
     world: &World<S>,
     worker: NodeId,
     shards: &[NodeId],
@@ -129,7 +129,7 @@ fn push_waits<S: CkptStore>(
 
 /// Puts the requests of these workers behind the others, each once for each of these shards at which it waits.
 fn push_all<S: CkptStore>(
-    found: &mut Vec<Waiting>,
+    found: &mut Vec<Wait>,
     world: &World<S>,
     workers: &[NodeId],
     shards: &[NodeId],
@@ -146,7 +146,7 @@ fn push_all<S: CkptStore>(
 /// Each unanswered request of a worker that is up, once for each shard that is up and holds it as waiting, in node
 /// order. A request that no shard holds is not among them: it is on its way still, or its shard is down or has
 /// forgotten it. `AllocError` where memory is wanting for the list.
-pub fn waiting<S: CkptStore>(alloc: Global, world: &World<S>) -> Result<Vec<Waiting>, AllocError>
+pub fn waiting<S: CkptStore>(alloc: Global, world: &World<S>) -> Result<Vec<Wait>, AllocError>
     ensures list { IfOk result (λ found. found.items ≡ all_waits world.now.state) }
 {
     let mut found = Vec::new(alloc);

@@ -1,7 +1,7 @@
 //! Who finished and who waits, in words.
 
 use crate::names::{Name, push_op};
-use crate::waits::{Waiting, WorkerEnd, waiting, worker_end};
+use crate::waits::{Wait, WorkerEnd, waiting, worker_end};
 use kt_core::World;
 use kt_store::CkptStore;
 use kt_tuple::{ALL_WORKERS, NodeId};
@@ -61,7 +61,7 @@ fn push_waiting<S: CkptStore>(
     out: &mut String,
     world: &World<S>,
     worker: NodeId,
-    waits: &[Waiting],
+    waits: &[Wait],
 ) -> Result<(), AllocError> {
     let Some((number, op)) = world.worker(worker).and_then(|worker| worker.again()) else {
         return Ok(());

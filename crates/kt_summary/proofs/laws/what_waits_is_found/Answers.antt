@@ -1,4 +1,4 @@
-use Rattle.kt_summary.proofs.Waiting.{waits_all, waits_each}
+use Rattle.kt_summary.proofs.Listed.{waits_all, waits_each}
 use Rattle.kt_summary.proofs.laws.what_waits_is_found.Goals as goal
 
 pub returns-clause-each : goal.returns-clause-each
