@@ -25,8 +25,14 @@ pub(crate) fn complete_in_memory<R: Read, W: Write, E: Write>(
 {
     let store = MemStore::new(alloc);
     memory_may_go();
-    let (answer, left) =
-        complete_returning_store(alloc, Start::Open, reader, writer, store, explainer);
+    let (answer, left) = complete_returning_store(
+        alloc,
+        Start::Open,
+        reader,
+        writer,
+        store,
+        explainer,
+    );
     drop(left);
     explainer.explain_replay(alloc, answer);
     end_replay(answer, errors)

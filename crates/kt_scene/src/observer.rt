@@ -25,13 +25,7 @@ pub trait Observer {
 
     /// These steps were made of what the text spells: all its steps, or those that its run found. The world is the one
     /// behind them, of which the report is to be written.
-    fn ended<S: CkptStore>(
-        &mut self,
-        alloc: Global,
-        text: &[u8],
-        world: &World<S>,
-        steps: &[Step],
-    );
+    fn ended<S: CkptStore>(&mut self, alloc: Global, text: &[u8], world: &World<S>, steps: &[Step]);
 }
 
 /// An observer that takes no notice.
