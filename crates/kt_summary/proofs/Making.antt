@@ -113,15 +113,15 @@ made_all first steps i s makers whole m = record {
 }
 
 refused-plan : (s : State) (step : Step) (e : StepError) → is_want e ≡ false → Refuses e (step_plan s step) → step_plan s step ≡ Err e
-refused-plan s step (refusals.Store refusal) no due = absurd (false≢true (sym no))
-refused-plan s step refusals.OutOfMemory no due = absurd (false≢true (sym no))
-refused-plan s step refusals.NoNode no due = due
-refused-plan s step refusals.WrongMode no due = due
-refused-plan s step refusals.NothingThere no due = due
-refused-plan s step refusals.NoSuchMatch no due = due
-refused-plan s step refusals.NotDecided no due = due
-refused-plan s step refusals.Unresolved no due = due
-refused-plan s step refusals.StepLimit no due = due
+refused-plan s step (refusals.Store refusal) other due = absurd (false≢true (sym other))
+refused-plan s step refusals.OutOfMemory other due = absurd (false≢true (sym other))
+refused-plan s step refusals.NoNode other due = due
+refused-plan s step refusals.WrongMode other due = due
+refused-plan s step refusals.NothingThere other due = due
+refused-plan s step refusals.NoSuchMatch other due = due
+refused-plan s step refusals.NotDecided other due = due
+refused-plan s step refusals.Unresolved other due = due
+refused-plan s step refusals.StepLimit other due = due
 
 never : (r : Result State StepError) (e : StepError) (t : State) → r ≡ Err e → r ≡ Ok t → ⊥
 never r e t refused led = absurd cc
@@ -130,8 +130,8 @@ never r e t refused led = absurd cc
 pub none_made : (first : State) (steps : List Step) (i : ℕ) (s : State) (step : Step) (e : StepError) (makers : List ℕ) → i < length steps
     → step ≡ get_or steps i step → is_want e ≡ false → Refuses e (step_plan s step) → MadeUpTo first steps i s makers
     → (t : State) → all_made first steps ≢ Ok t
-none_made first steps i s step e makers lt at no due m t led =
-    let refused : step_result s step ≡ Err e = ap (applied_if s step) (refused-plan s step e no due) in
+none_made first steps i s step e makers lt at other due m t led =
+    let refused : step_result s step ≡ Err e = ap (applied_if s step) (refused-plan s step e other due) in
     let rest = drop (i + 1) steps in
     let whole : all_made first steps ≡ Err e =
     ap (λ (xs : List Step). all_made first xs) (sym (take-append-drop (i + 1) steps))

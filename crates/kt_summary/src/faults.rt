@@ -41,11 +41,13 @@ fn push_fault(out: &mut String, line: usize, struck: FaultEnd) -> Result<(), All
 /// Lines that begin with `#` are counted as lines, and are no fault lines.
 fn line_of_fault(text: &[u8], place: usize) -> usize {
     let mut rest = text;
-    let mut number = 0usize;
     // How many fault lines are to come before it; not known yet before the line `faults`.
     let mut ahead: Option<usize> = None;
-    while let Some((line, behind)) = line_at(rest) {
-        number = number.saturating_add(1);
+    // A text has no more lines than bytes.
+    for at in 0..text.len() {
+        let Some((line, behind)) = line_at(rest) else {
+            return 0;
+        };
         rest = behind;
         let is_remark = line.first() == Some(&b'#');
         match ahead {
@@ -54,7 +56,7 @@ fn line_of_fault(text: &[u8], place: usize) -> usize {
                     ahead = Some(place);
                 }
             }
-            Some(0) if !is_remark => return number,
+            Some(0) if !is_remark => return at + 1,
             Some(count) if !is_remark => ahead = Some(count.saturating_sub(1)),
             Some(_) => {}
         }
