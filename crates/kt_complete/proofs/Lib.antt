@@ -1,3 +1,3 @@
-pub mod Going
+pub mod Onward
 pub mod Stops
 pub mod Answered

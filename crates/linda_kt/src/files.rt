@@ -129,7 +129,11 @@ impl Carries<OldFile, SqlOpenError> for Files<'_> {
         ensures { CarriesFile over_files old.connection store.now.content result }
     {
         match SqlStore::migrate(alloc, old.connection, store) {
-            Ok(_) => Ok(()),
+            Ok(carried) => {
+                // Copies the log into the file, as `put_away` does.
+                let _ = carried.into_connection().close();
+                Ok(())
+            }
             Err((error, _)) => Err(error),
         }
     }

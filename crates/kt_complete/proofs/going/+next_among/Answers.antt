@@ -3,7 +3,7 @@ use Rattle.std.specs.Prelude.{Option}
 use Rattle.kt_scenario.specs.declared.step.Step.{Step}
 use Rattle.kt_stage.specs.Asking.{IsAsked}
 use Rattle.kt_stage.specs.Policy.{next_step}
-use Rattle.kt_complete.proofs.Going.{asked_later}
+use Rattle.kt_complete.proofs.Onward.{asked_later}
 use Rattle.kt_complete.proofs.going.+next_among.Goals as goal
 
 pub returns-in-None : goal.returns-in-None

@@ -1,7 +1,7 @@
 use Rattle.std.proofs.Common.{ap, refl, sym, subst, ◌∙◌}
 use Rattle.std.specs.Prelude.{Err}
 use Rattle.kt_core.specs.Stepping.{step_counted}
-use Rattle.kt_complete.proofs.Going.{fewer_left, went_listed, went_more, went_none, went_stays}
+use Rattle.kt_complete.proofs.Onward.{fewer_left, went_listed, went_more, went_none, went_stays}
 use Rattle.kt_complete.proofs.going.go_on.Goals as goal
 
 pub going-init : goal.going-init

@@ -1,7 +1,7 @@
 use Rattle.std.proofs.Common.{ap, ◌∙◌}
 use Rattle.std.specs.Prelude.{None, Some}
 use Rattle.kt_complete.specs.Completion.{in_asking, next_of_all}
-use Rattle.kt_complete.proofs.Going.{next_is, next_made, next_refused, one_more}
+use Rattle.kt_complete.proofs.Onward.{next_is, next_made, next_refused, one_more}
 use Rattle.kt_complete.proofs.going.make_next.Goals as goal
 
 pub returns-in-Ok-step-clause-made : goal.returns-in-Ok-step-clause-made
