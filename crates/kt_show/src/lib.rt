@@ -14,6 +14,3 @@ mod showing;
 mod state;
 
 pub use showing::show;
-
-#[cfg(test)]
-mod tests;

@@ -1,5 +1,5 @@
 //! The stores in files.
-//! Cited by tests.rt; whoever calls the trait `Carries` or `Opens`.
+//! Cited by whoever calls the trait `Carries` or `Opens`.
 ghost use Rattle.std.specs.Prelude.{◌≡◌, false};
 ghost use Rattle.sqlite.specs.Files.{over_files};
 ghost use Rattle.linda_kt.specs.Files.{CarriesFile, ConnectsFile, OpensFile};

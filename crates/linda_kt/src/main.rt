@@ -11,13 +11,7 @@
 #![tactic(auto)]
 
 mod files;
-#[cfg(test)]
-mod opener_tests;
 mod program;
-#[cfg(test)]
-mod run_tests;
-#[cfg(test)]
-mod tests;
 mod words;
 
 use crate::files::Files;

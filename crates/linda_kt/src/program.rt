@@ -1,5 +1,5 @@
 //! What the program does with its words and its three streams.
-//! Cited by opener_tests.rt, tests.rt.
+//! Cited by no other file of crates/.
 ghost use Rattle.std.specs.Prelude.{◌≡◌, ◌≢◌, ◌⊎◌, [], IsErr, IfErr, IfOk};
 ghost use Rattle.std.specs.IoError.{error_kind};
 ghost use Rattle.std.specs.declared.io.ErrorKind.TheVariants as io_kind;
