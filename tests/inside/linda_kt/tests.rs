@@ -4,7 +4,7 @@ use crate::program::run_program;
 use kt_command::end_replay;
 use kt_scene::{OpenError, ReplayFault, Sink, Source, StepError};
 use kt_store::StoreError;
-use std::alloc::{AllocError, Global};
+use std::alloc::Global;
 use std::io;
 use std::io::{ErrorKind, Read, Write};
 use std::process::Abort;
@@ -357,46 +357,4 @@ fn streams_that_fail(rt: HostRuntime) -> Result<(), Fail> {
         assert_eq!(rt; writer.into_inner().held.as_slice(), front);
     }
     Ok(())
-}
-
-/// All the memory that is left, in blocks that nothing touches.
-fn all_memory(alloc: Global) -> Result<Vec<Vec<u8>>, AllocError> {
-    let mut blocks = Vec::with_capacity(alloc, 100_000)?;
-    let mut size = 1usize << 45;
-    for _ in 0..42usize {
-        for _ in 0..100_000usize {
-            let Ok(block) = Vec::with_capacity(alloc, size) else {
-                break;
-            };
-            blocks.push(block)?;
-        }
-        size /= 2;
-    }
-    Ok(blocks)
-}
-
-/// With ever more memory a run ends for want of memory, with nothing written, until it is done.
-#[test]
-fn little_memory(rt: HostRuntime) -> Result<(), Fail> {
-    let alloc = rt.alloc();
-    for round in 0..2000usize {
-        let mut writer = Sink::new(Vec::with_capacity(alloc, 1000)?);
-        let mut errors = Vec::with_capacity(alloc, 1000)?;
-        let spare: Vec<u8> = Vec::with_capacity(alloc, 512 * round)?;
-        let hoard = all_memory(alloc)?;
-        drop(spare);
-        let mut reader = Source::new(PUT_AND_TAKE.as_bytes());
-        let status = run_with(&rt, &rt, &["replay"], &mut reader, &mut writer, &mut errors);
-        drop(hoard);
-        let output = writer.into_inner();
-        if status == 0 {
-            assert!(rt; output.as_slice() == PUT_AND_TAKE_REPORT.as_bytes());
-            assert!(rt; errors.is_empty() && round > 10);
-            return Ok(());
-        }
-        assert!(rt;
-            output.is_empty() && errors.as_slice() == b"memory\n".as_slice() && status == 6
-        );
-    }
-    Err(Fail::new("never done"))
 }
