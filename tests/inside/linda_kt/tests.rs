@@ -4,7 +4,6 @@ use crate::program::run_program;
 use kt_command::end_replay;
 use kt_scene::{OpenError, ReplayFault, Sink, Source, StepError};
 use kt_store::StoreError;
-use std::alloc::Global;
 use std::io;
 use std::io::{ErrorKind, Read, Write};
 use std::process::Abort;
