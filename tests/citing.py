@@ -252,18 +252,26 @@ def has_line(path):
     return last not in BESIDE and last[0].isupper() and not (above and last in OF_A_FUNCTION)
 
 
-def line_of(path):
-    """The line that belongs into the head of the file, with its line feed."""
+def users_of(path):
+    """Who relies on the file: files and functions of its crate, other crates, and the traits by which it is called."""
     crate, folder, module = all_files()[path]
     users = cited_sources()[path] if folder == "src" else cited_modules()[f"{crate}.{folder}.{module}"]
     labels = {label(user, crate) for user in users}
     others = [name for name in CRATES if name in labels and name != crate]
     own = sorted(labels - set(others), key=lambda name: (name.startswith("`"), name))
-    named = ", ".join(own[:MOST]) + (f" and {len(own) - MOST} more" if len(own) > MOST else "")
     traits = sorted(methods_of(path)[1]) if folder == "src" else []
+    return own, others, traits
+
+
+def line_of(path, is_named=False):
+    """The line that belongs into the head of the file, with its line feed. It does not name other crates, so that a
+    crate that comes changes no file below it."""
+    own, others, traits = users_of(path)
+    named = ", ".join(own[:MOST]) + (f" and {len(own) - MOST} more" if len(own) > MOST else "")
+    outside = (", ".join(others) if is_named else "other crates") if others else ""
     by_trait = f"whoever calls the trait {' or '.join(f'`{name}`' for name in traits)}" if traits else ""
-    who = "; ".join(part for part in (named, ", ".join(others), by_trait) if part) or "no other file of crates/"
-    mark = "//!" if folder == "src" else "--"
+    who = "; ".join(part for part in (named, outside, by_trait) if part) or "no other file of crates/"
+    mark = "//!" if path.endswith(".rt") else "--"
     ending = "." + path.rsplit(".", 1)[1]
     width = WIDTH[ending] - len(mark) - 3
     lines = textwrap.wrap(f"Cited by {who}.", width, break_long_words=False, break_on_hyphens=False)

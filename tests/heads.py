@@ -2,14 +2,15 @@
 
 A head is the `//!` lines with which `lib.rt` or `main.rt` begins: a sentence or two, and then the items of `ITEMS`,
 each as `//! - Name: text`, whose further lines are `//!   text`. So that nobody trusts a head that has become stale,
-the neighbours in it are compared with crates.txt.
+the neighbours in it are compared with crates.txt. Who stands on a crate is not in its head: else each crate that comes
+would change all below it, and they would have to be proved anew. `tests/cited CRATE` prints it.
 """
 
 import re
 
 from sources import is_there, text_of
 
-ITEMS = ("Contract", "Stands on", "Used by", "Begin in")
+ITEMS = ("Contract", "Stands on", "Begin in")
 # Crates whose root file has another head, each with the reason.
 APART = {"kt_example": "docs/USING.md quotes the whole file"}
 KIT = "; of the kit: "
@@ -26,9 +27,8 @@ def neighbours(crate, lines):
     """The items on the crate's neighbours, as its head must have them."""
     below = [name for name in lines if name in lines[crate]]
     kit = [name for name in lines[crate] if name not in lines]
-    above = [name for name in lines if crate in lines[name]]
     stands_on = (", ".join(below) or "none") + (KIT + ", ".join(kit) if kit else "")
-    return {"Stands on": stands_on, "Used by": ", ".join(above) or "none"}
+    return {"Stands on": stands_on}
 
 
 def root_of(crate):

@@ -182,6 +182,7 @@ HELP_OF_REPLAY = report(
     "",
     "Options:",
     "      --store <FILE>  Keeps the checkpoints in FILE, which is absent, empty or a fresh store",
+    "      --explain       Says behind the line of a fault why it came; on a terminal that is so without the flag",
     "  -h, --help          Print help",
 )
 HELP_OF_RUN = report(
@@ -194,17 +195,19 @@ HELP_OF_RUN = report(
     "      --journal       Writes the report as remarks, and then the steps that were made, as a scenario for replay or"
     " resume",
     "      --resume        Goes on from what FILE holds, after the program was stopped; it need not be fresh then",
+    "      --explain       Says behind the line of a fault why it came; on a terminal that is so without the flag",
     "  -h, --help          Print help",
 )
 HELP_OF_RESUME = report(
     "Goes on from a store after the program was stopped: makes the steps of the scenario on standard input and writes"
     " the report to standard output",
     "",
-    "Usage: linda_kt resume --store <FILE>",
+    "Usage: linda_kt resume [OPTIONS] --store <FILE>",
     "",
     "Options:",
     "      --store <FILE>  The store to go on from; one that is absent, empty or fresh was stopped before its first"
     " write",
+    "      --explain       Says behind the line of a fault why it came; on a terminal that is so without the flag",
     "  -h, --help          Print help",
 )
 HELP_OF_MIGRATE = report(

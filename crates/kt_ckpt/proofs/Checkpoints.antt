@@ -1,6 +1,6 @@
 -- A checkpoint is a field, and is all of its bytes.
 -- Cited by `Ckpt::decode`, `Ckpt::encode`, `CkptHeader::decode`, `decode::checkpoint_at`, `encode::encode_parts`;
---   kt_sql_tables.
+--   other crates.
 use Rattle.std.proofs.Common.{append_assoc, ◌≡◌, ℕ, ◌^◌, ◌<◌, Bool, true, false, cond, eqb, List, [], ◌∷◌, ◌++◌, length, map, Result, Ok, Err, refl, sym, ap}
 use Rattle.std.proofs.Common.{◌≤◌, take, subst, ◌∙◌, arith}
 use Rattle.std.specs.Prelude.{◌≢◌, All, IfOk, OnOk}

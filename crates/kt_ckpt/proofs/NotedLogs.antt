@@ -1,5 +1,5 @@
 -- The acts of a log, as checkpoints hold them: as many as the log has numbers, and what they are as the history grows.
--- Cited by Gatherings, `past::acts_behind`, `past::are_fit_behind`; kt_core, kt_model, kt_resume.
+-- Cited by Gatherings, `past::acts_behind`, `past::are_fit_behind`; other crates.
 use Rattle.std.proofs.Common.{◌≡◌, ℕ, zero, suc, ◌+◌, ◌<◌, ◌≤◌, Bool, true, false, List, [], ◌∷◌, ◌++◌, take, drop, length, map}
 use Rattle.std.proofs.Common.{Option, Some, None, inl, inr, refl, sym, ap, ◌∙◌, subst, arith, length-append}
 use Rattle.std.specs.Prelude.{Contains}

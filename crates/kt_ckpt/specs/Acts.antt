@@ -1,8 +1,8 @@
 -- The acts of a log: which a node's log may hold, and their bytes.
 -- Cited by ActCauses, ActFields, ActWhats, Checkpoints, Gatherings, OldCheckpoints, OldParts, act_bytes.rt, acts.rt,
 --   decode.rt, old.rt, past.rt, specs/Checkpoint, specs/LogActs, specs/Old, specs/auxiliary/Gathered, `Past::acts`,
---   `Past::are_fit`, `act_bytes::acts_at`, `act_bytes::push_acts`, `act_bytes::push_log`, `past::are_fit_behind`;
---   kt_core, kt_model, kt_node, kt_resume, kt_state.
+--   `Past::are_fit`, `act_bytes::acts_at`, `act_bytes::push_acts`, `act_bytes::push_log`, `past::are_fit_behind`; other
+--   crates.
 use Rattle.std.specs.Prelude.{◌≡◌, ℕ, ◌≤◌, ◌<◌, ◌^◌, ◌==◌, nat_le, Bool, true, false, not, ◌&&◌, if◌then◌else◌}
 use Rattle.std.specs.Prelude.{List, [], ◌∷◌, ◌++◌, Option, None, Some, IfSome, Result, Ok, Err, IsTrue}
 use Rattle.std.specs.Int.{w64, to_be_bytes}

@@ -1,7 +1,7 @@
 -- A checkpoint, its one spelling, and how it is read.
 -- Cited by Checkpoints, Front, OldCheckpoints, OldParts, OldStates, Peers, ckpt.rt, decode.rt, encode.rt, old.rt,
 --   old_state.rt, specs/Header, specs/Old, specs/OldLimits, `Ckpt::decode_old`, `Ckpt::decode`, `encode::push_peers`;
---   kt_model, kt_node, kt_resume, kt_sql_tables, kt_state.
+--   other crates.
 use Rattle.std.specs.Prelude.{◌≡◌, ℕ, ◌≤◌, ◌<◌, ◌^◌, ◌==◌, nat_eq, if◌then◌else◌}
 use Rattle.std.specs.Prelude.{List, [], ◌∷◌, ◌++◌, length, map, Result, Ok, Err, All}
 use Rattle.std.specs.List.{flat_map, zip}

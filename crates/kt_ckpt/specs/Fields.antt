@@ -1,6 +1,6 @@
 -- A checkpoint as plain data.
 -- Cited by Checkpoints, OldStates, OldWorkers, States, specs/OldLimits, specs/OldState, specs/State, state.rt,
---   worker.rt; kt_resume, kt_state.
+--   worker.rt; other crates.
 use Rattle.std.specs.Prelude.{ℕ, Bool, List, Option}
 use Rattle.kt_tuple.specs.declared.value.Value.{Value}
 use Rattle.kt_tuple.specs.declared.tuple.Tuple.{Tuple}

@@ -1,8 +1,7 @@
 -- A checkpoint without its node's state.
 -- kt_store,
 --   kt_sql_tables, kt_model.
--- Cited by Checkpoints, ckpt.rt, decode.rt, header.rt, `CkptHeader::decode`; kt_core, kt_model, kt_refinement,
---   kt_sql_tables, kt_state, kt_store.
+-- Cited by Checkpoints, ckpt.rt, decode.rt, header.rt, `CkptHeader::decode`; other crates.
 use Rattle.std.specs.Prelude.{ℕ, List, map, Result, Ok}
 use Rattle.std.specs.Int.{w64}
 use Rattle.kt_tuple.specs.declared.node.NodeId.{NodeId}

@@ -1,7 +1,7 @@
 -- The acts of a node's log, as its checkpoint holds them: what each act heard is named by node and place, so that the
 -- name holds after the program has stopped.
 -- Cited by Gatherings, NotedLogs, TakenLogs, past.rt, specs/auxiliary/Gathered, `Past::acts`, `Past::are_fit`,
---   `past::acts_behind`, `past::are_fit_behind`; kt_model, kt_node, kt_resume.
+--   `past::acts_behind`, `past::are_fit_behind`; other crates.
 use Rattle.std.specs.Prelude.{ℕ, Bool, true, if◌then◌else◌, List, map, Option, None, Some}
 use Rattle.std.specs.List.{list_all}
 use Rattle.kt_tuple.specs.declared.node.NodeId.{NodeId}

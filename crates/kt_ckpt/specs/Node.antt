@@ -1,6 +1,6 @@
 -- Nodes in bytes.
 -- Cited by ActCauses, ActFields, Checkpoints, Nodes, OldCheckpoints, OldParts, act_bytes.rt, decode.rt, encode.rt,
---   old.rt, specs/Acts, specs/Checkpoint, specs/Header, specs/Old; kt_model.
+--   old.rt, specs/Acts, specs/Checkpoint, specs/Header, specs/Old; other crates.
 use Rattle.std.specs.Prelude.{ℕ, ◌≤◌, ◌==◌, if◌then◌else◌, List, [], ◌∷◌, Result, Ok, Err}
 use Rattle.kt_tuple.specs.declared.node.NodeId.{NodeId}
 use Rattle.kt_tuple.specs.declared.node.NodeId.TheVariants.{Worker, Shard}

@@ -1,6 +1,6 @@
 -- A checkpoint in format 1: its spelling, which has no acts, and how it is read with the acts of its log handed in.
--- Cited by OldCheckpoints, OldParts, old.rt, `Ckpt::decode_old`, `Ckpt::encode_old`, `old::old_checkpoint_at`;
---   kt_sql_tables.
+-- Cited by OldCheckpoints, OldParts, old.rt, `Ckpt::decode_old`, `Ckpt::encode_old`, `old::old_checkpoint_at`; other
+--   crates.
 use Rattle.std.specs.Prelude.{◌≡◌, ℕ, ◌≤◌, ◌<◌, ◌^◌, ◌==◌, ◌&&◌, if◌then◌else◌}
 use Rattle.std.specs.Prelude.{List, [], ◌∷◌, ◌++◌, length, Result, Ok, Err, All, IsTrue}
 use Rattle.std.specs.List.{list_all, zip}

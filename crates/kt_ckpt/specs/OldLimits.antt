@@ -1,6 +1,6 @@
 -- What format 1 can hold: it knows no bool, and at most 8 places of a tuple, 8 workers and 8 neighbours.
 -- Cited by OldCheckpoints, OldFields, OldOps, OldParts, OldRising, OldStates, old.rt, old_parts.rt, old_state.rt,
---   specs/Old; kt_sql_tables.
+--   specs/Old; other crates.
 use Rattle.std.specs.Prelude.{ℕ, nat_le, Bool, true, false, ◌&&◌, List, length, Option, None, Some}
 use Rattle.std.specs.List.{list_all}
 use Rattle.kt_tuple.specs.declared.node.NodeId.{NodeId}

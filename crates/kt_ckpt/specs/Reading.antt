@@ -1,7 +1,7 @@
 -- Reading bytes from left to right, up to the first fault.
 -- Cited by ActCauses, ActFields, ActWhats, Checkpoints, Combined, Field, Front, Loop, Nodes, OldCheckpoints, OldOps,
 --   OldParts, OldRising, OldStates, OldWorkers, Ops, Peers, Primitive, States, Tuples, Values, act_bytes.rt, decode.rt,
---   entry.rt and 29 more; kt_model.
+--   entry.rt and 29 more; other crates.
 use Rattle.std.specs.Prelude.{◌≡◌, ◌≢◌, ℕ, zero, suc, ◌+◌, ◌≤◌, nat_lt, nat_le, ◌&&◌, if◌then◌else◌}
 use Rattle.std.specs.Prelude.{List, [], ◌∷◌, length, take, drop, Result, Ok, Err}
 use Rattle.std.specs.Int.{Width, byte_len, from_be_bytes}

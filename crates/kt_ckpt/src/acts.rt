@@ -1,5 +1,5 @@
 //! What a node did, as its checkpoint holds it, and which acts may stand in whose log.
-//! Cited by act_bytes.rt, chain.rt, decode.rt, old.rt, past.rt; kt_resume.
+//! Cited by act_bytes.rt, chain.rt, decode.rt, old.rt, past.rt; other crates.
 
 ghost use Rattle.std.specs.Prelude.{◌≡◌, ◌↔◌, ◌&&◌, All, IfOk, IsTrue};
 ghost use Rattle.std.specs.List.{list_all};

@@ -1,5 +1,5 @@
 //! The acts of a log, shared.
-//! Cited by act_bytes.rt, acts.rt, ckpt.rt, decode.rt, encode.rt, old.rt, past.rt; kt_node, kt_resume, kt_state.
+//! Cited by act_bytes.rt, acts.rt, ckpt.rt, decode.rt, encode.rt, old.rt, past.rt; other crates.
 
 ghost use Rattle.std.specs.Prelude.{◌≡◌, ◌+◌, ◌-◌, ◌<◌, ◌≤◌, ◌^◌, ◌++◌, [], ℕ, IfOk, OnOk, IsTrue};
 ghost use Rattle.std.specs.Prelude.{◌↔◌, length, map, reverse, take};

@@ -1,5 +1,5 @@
 //! The checkpoint of a node.
-//! Cited by decode.rt, encode.rt, old.rt; kt_core, kt_resume, kt_sql, kt_sql_tables, kt_state, kt_store.
+//! Cited by decode.rt, encode.rt, old.rt; other crates.
 
 ghost use Rattle.std.specs.Prelude.{◌≡◌, IfOk};
 

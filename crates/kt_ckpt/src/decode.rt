@@ -1,5 +1,5 @@
 //! A checkpoint, read.
-//! Cited by old.rt; kt_sql_tables.
+//! Cited by old.rt; other crates.
 
 ghost use Rattle.std.specs.Prelude.{◌≡◌, ◌≢◌, All, ℕ, ◌<◌, ◌≤◌, List, ◌∷◌, ◌++◌, IfOk, Ok, Err, length, map, take};
 ghost use Rattle.kt_ckpt.specs.Acts.{IsActOf};

@@ -1,5 +1,5 @@
 //! A checkpoint, written.
-//! Cited by act_bytes.rt, old.rt; kt_sql_tables.
+//! Cited by act_bytes.rt, old.rt; other crates.
 
 ghost use Rattle.std.specs.Prelude.{◌≡◌, ◌++◌, ◌∷◌, [], All, IfOk, OnOk, Ok, length};
 ghost use Rattle.std.specs.List.{flat_map, zip};

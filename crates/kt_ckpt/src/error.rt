@@ -1,6 +1,6 @@
 //! Why bytes are no checkpoint.
 //! Cited by act_bytes.rt, decode.rt, entry.rt, list.rt, numbers.rt, old.rt, old_parts.rt, old_state.rt, op.rt,
-//!   shard.rt, tuple.rt, value.rt, worker.rt; kt_sql_tables.
+//!   shard.rt, tuple.rt, value.rt, worker.rt; other crates.
 
 ghost use Rattle.std.specs.Prelude.{◌≡◌};
 ghost use Rattle.kt_ckpt.specs.declared.error.CkptError.TheVariants.{OutOfMemory};

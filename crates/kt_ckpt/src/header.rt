@@ -1,5 +1,5 @@
 //! A checkpoint without its node's state: what a node decides by before it loads one.
-//! Cited by ckpt.rt, decode.rt; kt_core, kt_model, kt_node, kt_sql, kt_sql_tables, kt_state, kt_store.
+//! Cited by ckpt.rt, decode.rt; other crates.
 
 ghost use Rattle.std.specs.Prelude.{◌≡◌, IfOk};
 

@@ -5,7 +5,6 @@
 //!   `read_back`). Other bytes are refused with their first fault from the left, want of memory aside (`Ckpt::decode`,
 //!   clause `exact`). What a history gives as the acts of a log is what its notes say (`Past::acts`, clause `acts`).
 //! - Stands on: kt_tuple, kt_script, kt_space, kt_link, kt_shard, kt_history; of the kit: thiserror
-//! - Used by: kt_store, kt_sql_tables, kt_sql, kt_state, kt_node, kt_model, kt_resume, kt_refinement, kt_core, kt_stage
 //! - Begin in: `ckpt.rt`, `state.rt` and `acts.rt` for the fields, then `decode.rt` and `encode.rt`, field by field.
 //!   `limits.rt` has the codes of the format, `old.rt` reads and writes format 1. `chain.rt` has how acts are shared,
 //!   `past.rt` where they come from.

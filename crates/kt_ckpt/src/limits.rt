@@ -1,6 +1,6 @@
 //! The codes of the format, each once, and the limit of neighbours. The other limits are those of tuples, scripts and
 //! nodes.
-//! Cited by act_bytes.rt, decode.rt, encode.rt, old.rt, old_parts.rt, op.rt, value.rt; kt_state.
+//! Cited by act_bytes.rt, decode.rt, encode.rt, old.rt, old_parts.rt, op.rt, value.rt; other crates.
 
 use kt_tuple::MAX_WORKERS;
 

@@ -1,7 +1,7 @@
 //! A checkpoint in format 1, read and written. It has no acts: they are handed to who reads it, and are not among what
 //! is written. kt_sql_tables writes this format, to compare the rows of a file of version 1 with it. Reading it is
 //! called by tests alone. Cited by kt_sql_tables.
-//! Cited by kt_sql_tables.
+//! Cited by other crates.
 
 ghost use Rattle.std.specs.Prelude.{◌≡◌, ◌≢◌, ◌≤◌, ◌<◌, ◌++◌, ◌∷◌, [], ℕ, List, All, IfOk, IfSome, IsTrue};
 ghost use Rattle.std.specs.Prelude.{◌==◌, ◌&&◌, MatchOption, OnOk, Ok, Err, false, length};

@@ -1,5 +1,5 @@
 //! The history, with the acts of each node at hand for its next checkpoint.
-//! Cited by kt_core, kt_node.
+//! Cited by other crates.
 
 ghost use Rattle.std.specs.Prelude.{◌≡◌, ◌⊎◌, ◌+◌, ◌<◌, ◌≤◌, ◌^◌, ◌∷◌, ◌++◌, [], All, IfErr, IfOk, IfSome, OnOk, true};
 ghost use Rattle.std.specs.Prelude.{drop, length, map, take};

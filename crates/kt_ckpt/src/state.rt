@@ -1,6 +1,5 @@
 //! What a checkpoint holds of its node.
-//! Cited by ckpt.rt, decode.rt, encode.rt, entry.rt, old.rt, old_state.rt, shard.rt, worker.rt; kt_core, kt_resume,
-//!   kt_state.
+//! Cited by ckpt.rt, decode.rt, encode.rt, entry.rt, old.rt, old_state.rt, shard.rt, worker.rt; other crates.
 
 ghost use Rattle.std.specs.Prelude.{◌≡◌, IfOk};
 ghost use Rattle.std.specs.Option.{option_copied};

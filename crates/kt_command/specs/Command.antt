@@ -1,6 +1,6 @@
 -- The names of the commands, and the words of a process.
 -- Cited by carries.rt, command.rt, opens.rt, specs/Asking, specs/Carried, specs/Opened, words.rt,
---   `words::words_behind`; kt_quick, linda_kt.
+--   `words::words_behind`; other crates.
 use Rattle.std.specs.Prelude.{ℕ, Bool, true, false, if◌then◌else◌, nat_eq, List, Option, None, Some, codes, map, String}
 use Rattle.std.specs.Prelude.{string_bytes, drop}
 use Rattle.std.specs.Borrow.{Bor}
@@ -39,9 +39,10 @@ command_of word is_resumed has_journal =
     else if is_word word (codes "run") then Some (Run (start_of is_resumed) (output_of has_journal))
     else None
 
--- what a program is asked to do: a command, over the store in a file or in memory; or to carry the store in a file over
+-- what a program is asked to do: a command, over the store in a file or in memory, with its fault explained or not; or
+-- to carry the store in a file over
 pub data Asked : Type 0 where
-  Makes : Command → Option Text → Asked
+  Makes : Command → Option Text → (is_explained : Bool) → Asked
   Carries : Text → Asked
 
 -- the texts behind references

@@ -1,5 +1,5 @@
 -- How a command ends over the store that is asked for.
--- Cited by request.rt; linda_kt.
+-- Cited by request.rt; other crates.
 use Rattle.std.specs.Prelude.{◌≡◌, ℕ, Option, None, Some, Result, Ok, Err}
 use Rattle.kt_store.specs.declared.store.CkptStore.{Ghosts}
 use Rattle.kt_scene.specs.Outside.{Reader, Writer}
@@ -36,10 +36,10 @@ Ends kind gives command None before after old new n = EndsInMemory command befor
 Ends kind gives command (Some path) before after old new n =
     EndsInFile kind gives command path before after old new n
 
--- how a program ends, by what it is asked to do
+-- how a program ends, by what it is asked to do: whether a fault is explained has no part in it
 abbrev pub EndsAsked : {S C F : Type 0} → Ghosts S → (Text → Result S F → Type 0) → (Text → Result C F → Type 0)
     → (C → Content → Result (Unit {0}) F → Type 0) → Asked → (before after : Reader) (old new : Writer) → ℕ → Type 0
-EndsAsked kind gives connects carries (Makes command file) before after old new n =
+EndsAsked kind gives connects carries (Makes command file is_explained) before after old new n =
     Ends kind gives command file before after old new n
 EndsAsked kind gives connects carries (Carries path) before after old new n =
     EndsCarried connects carries path before after old new n

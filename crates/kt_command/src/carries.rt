@@ -1,5 +1,5 @@
 //! What carries the store in a file over.
-//! Cited by carrying.rt, request.rt; linda_kt.
+//! Cited by carrying.rt, request.rt; other crates.
 ghost use Rattle.std.specs.Prelude.{IfOk, Result};
 ghost use Rattle.kt_store.specs.Content.{Content};
 ghost use Rattle.kt_command.specs.Command.{Text};

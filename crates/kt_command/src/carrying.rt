@@ -4,6 +4,7 @@ ghost use Rattle.std.specs.Prelude.{◌≡◌};
 ghost use Rattle.kt_command.specs.Carried.{EndsCarried, EndsCarrying};
 
 use crate::carries::Carries;
+use crate::explainer::Explainer;
 use crate::request::refuse_store;
 use crate::status::{DONE, end_replay};
 use kt_scene::{Sink, Source, report_returning_store, write_text};
@@ -22,6 +23,7 @@ pub fn carry_over<C: Drop, F: Display + Drop, O: Carries<C, F>, R: Read, W: Writ
     reader: &mut Source<R>,
     writer: &mut Sink<W>,
     errors: &mut E,
+    explainer: &mut Explainer,
 ) -> u8
     ensures told { EndsCarried (O.connects carrier) O.carries path.now
         reader.old reader.new writer.old writer.new result }
@@ -29,9 +31,14 @@ pub fn carry_over<C: Drop, F: Display + Drop, O: Carries<C, F>, R: Read, W: Writ
 {
     match carrier.connect(path) {
         Ok(connection) => {
-            carry_connected::<C, F, O, R, W, E>(alloc, connection, reader, writer, errors)
+            carry_connected::<C, F, O, R, W, E>(
+                alloc, connection, path, reader, writer, errors, explainer,
+            )
         }
-        Err(fault) => refuse_store(&fault, errors),
+        Err(fault) => {
+            explainer.explain_opening(alloc, path, &fault);
+            refuse_store(&fault, errors)
+        }
     }
 }
 
@@ -39,19 +46,27 @@ pub fn carry_over<C: Drop, F: Display + Drop, O: Carries<C, F>, R: Read, W: Writ
 fn carry_connected<C: Drop, F: Display + Drop, O: Carries<C, F>, R: Read, W: Write, E: Write>(
     alloc: Global,
     connection: C,
+    path: &str,
     reader: &mut Source<R>,
     writer: &mut Sink<W>,
     errors: &mut E,
+    explainer: &mut Explainer,
 ) -> u8
     requires { O.ready connection }
     ensures told { EndsCarrying O.carries connection reader.old reader.new writer.old writer.new result }
     ensures done_without_a_word { result ≡ DONE → errors.new ≡ errors.old }
 {
-    match report_returning_store(alloc, reader, MemStore::new(alloc)) {
+    match report_returning_store(alloc, reader, MemStore::new(alloc), explainer) {
         Ok((report, store)) => match O::carry(alloc, connection, &store) {
             Ok(()) => end_replay(write_text(writer, &report), errors),
-            Err(fault) => refuse_store(&fault, errors),
+            Err(fault) => {
+                explainer.explain_opening(alloc, path, &fault);
+                refuse_store(&fault, errors)
+            }
         },
-        Err((fault, _)) => end_replay(Err(fault), errors),
+        Err((fault, _)) => {
+            explainer.explain_replay(alloc, Err(fault));
+            end_replay(Err(fault), errors)
+        }
     }
 }

@@ -5,14 +5,14 @@
 //!   else with the status of the fault that stopped it. It does so over a fresh store in memory, or over the very store
 //!   that was opened at the path that is named. A store of the version before is carried over by the journal that made
 //!   it (`carry_over`, clause `told`).
-//! - Stands on: kt_text, kt_store, kt_model, kt_core, kt_scene, kt_stage, kt_run
-//! - Used by: linda_kt, kt_quick
+//! - Stands on: kt_text, kt_explain, kt_store, kt_model, kt_core, kt_scene, kt_reasons, kt_stage, kt_run
 //! - Begin in: `request.rt`, then `running.rt` and `carrying.rt`, and `status.rt` for the exit statuses.
 #![tactic(auto)]
 
 mod carries;
 mod carrying;
 mod command;
+mod explainer;
 mod opens;
 mod request;
 mod running;
@@ -22,6 +22,7 @@ mod words;
 pub use carries::Carries;
 pub use carrying::carry_over;
 pub use command::Command;
+pub use explainer::{Explained, Explainer};
 pub use opens::Opens;
 pub use request::{Request, run_request};
 pub use running::{run_in_memory, run_returning_store};

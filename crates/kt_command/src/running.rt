@@ -1,9 +1,10 @@
 //! A command over a store, from the reader to the writer and the exit status.
-//! Cited by request.rt; kt_quick.
+//! Cited by request.rt; other crates.
 ghost use Rattle.std.specs.Prelude.{◌≡◌};
 ghost use Rattle.kt_command.specs.Status.{EndsAs, EndsInMemory};
 
 use crate::command::Command;
+use crate::explainer::Explainer;
 use crate::status::{DONE, end_replay, end_run};
 use kt_run::run_text_returning_store;
 use kt_scene::{Sink, Source, replay_returning_store};
@@ -15,7 +16,8 @@ use std::sync::Wait;
 use std::thread::Threads;
 
 /// Does the command over the store and answers the exit status, with the store as it was left. A fault is one line on
-/// `errors`; before any fault but the writer's nothing is written. It may wait for its threads.
+/// `errors`; before any fault but the writer's nothing is written. The explainer gathers what explains it. It may wait
+/// for its threads.
 pub fn run_returning_store<
     T: Threads + Wait + Sync,
     R: Read,
@@ -30,6 +32,7 @@ pub fn run_returning_store<
     reader: &mut Source<R>,
     writer: &mut Sink<W>,
     errors: &mut E,
+    explainer: &mut Explainer,
 ) -> (u8, S)
     ensures told { EndsAs S.CkptStore store result.1 command
         reader.old reader.new writer.old writer.new result.0 }
@@ -37,13 +40,17 @@ pub fn run_returning_store<
 {
     match command {
         Command::Replay(start) => {
-            let (answer, left) = replay_returning_store(alloc, start, reader, writer, store);
+            let (answer, left) = replay_returning_store(
+                alloc, start, reader, writer, store, explainer,
+            );
+            explainer.explain_replay(alloc, answer);
             (end_replay(answer, errors), left)
         }
         Command::Run(start, output) => {
             let (answer, left) = run_text_returning_store(
-                threads, alloc, start, reader, writer, store, output, &OpenGate,
+                threads, alloc, start, reader, writer, store, output, &OpenGate, explainer,
             );
+            explainer.explain_run(alloc, answer);
             (end_run(answer, errors), left)
         }
     }
@@ -57,6 +64,7 @@ pub fn run_in_memory<T: Threads + Wait + Sync, R: Read, W: Write, E: Write>(
     reader: &mut Source<R>,
     writer: &mut Sink<W>,
     errors: &mut E,
+    explainer: &mut Explainer,
 ) -> u8
     ensures told { EndsInMemory command reader.old reader.new writer.old writer.new result }
     ensures done_without_a_word { result ≡ DONE → errors.new ≡ errors.old }
@@ -64,7 +72,7 @@ pub fn run_in_memory<T: Threads + Wait + Sync, R: Read, W: Write, E: Write>(
     let store = MemStore::new(alloc);
     memory_may_go();
     let (status, left) = run_returning_store(
-        threads, alloc, command, store, reader, writer, errors,
+        threads, alloc, command, store, reader, writer, errors, explainer,
     );
     drop(left);
     status

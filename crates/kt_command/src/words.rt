@@ -1,5 +1,5 @@
 //! The words of a process: its arguments without the first, which is the program's name.
-//! Cited by kt_quick, linda_kt.
+//! Cited by other crates.
 ghost use Rattle.std.specs.Prelude.{◌≡◌, IfOk};
 ghost use Rattle.std.specs.Vec.Iter.{into_iter_items};
 ghost use Rattle.kt_command.specs.Command.{texts, words_behind};

@@ -1,5 +1,5 @@
 -- Each script is within its limits.
--- Cited by `opening::scripts_are_short`; kt_run.
+-- Cited by `opening::scripts_are_short`; other crates.
 use Rattle.std.proofs.Common.{◌≡◌, ℕ, ◌+◌, ◌<◌, ◌≤◌, zero, suc, List, [], ◌∷◌, length, get_or, inl, inr, subst, sym, arith}
 use Rattle.std.specs.Prelude.{IfSome, slice_get}
 use Rattle.std.proofs.lemmas.Bool.{cases_eq, cases_lt}

@@ -1,5 +1,5 @@
 -- What a world lends of its nodes and links, and which steps it allows.
--- Cited by change.rt, lending.rt, world.rt, `World::is_allowed`; kt_stage.
+-- Cited by change.rt, lending.rt, world.rt, `World::is_allowed`; other crates.
 use Rattle.std.specs.Prelude.{ℕ, Bool, List, Option, None, Some, slice_get}
 use Rattle.kt_tuple.specs.declared.node.NodeId.{NodeId}
 use Rattle.kt_worker.specs.declared.worker.Worker.{Worker}

@@ -1,5 +1,5 @@
 -- How a world begins, and why one does not.
--- Cited by start.rt, `Start::begin`; kt_run, kt_scene, kt_stage.
+-- Cited by start.rt, `Start::begin`; other crates.
 use Rattle.std.specs.Prelude.{◌≡◌, true}
 use Rattle.kt_store.specs.Content.{Content, is_fresh}
 use Rattle.kt_scenario.specs.Scene.{SceneModel}

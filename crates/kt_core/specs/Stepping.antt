@@ -1,6 +1,5 @@
 -- Why a step is refused.
--- Cited by Steps, stepping.rt, world.rt, `World::step`, `stepping::make_by_plan`, `stepping::prepare`; kt_scene,
---   kt_stage.
+-- Cited by Steps, stepping.rt, world.rt, `World::step`, `stepping::make_by_plan`, `stepping::prepare`; other crates.
 use Rattle.std.specs.Prelude.{◌≡◌, ◌≢◌, Bool, Result, Ok, Err, None, IsOk, IsTrue}
 use Rattle.kt_state.specs.declared.plan.Plan.{Plan}
 use Rattle.kt_scenario.specs.declared.step.Step.{Step}

@@ -1,6 +1,6 @@
 -- A store as its callers see it, why reading from it and writing to it may be refused, and what it counts.
 -- Cited by Later, Steps, specs/Resuming, specs/Starting, specs/Stepping, specs/World, specs/auxiliary/Calls,
---   specs/auxiliary/StepPlans, start.rt, world.rt, `Start::begin`; kt_command, kt_run, kt_scene, kt_stage.
+--   specs/auxiliary/StepPlans, start.rt, world.rt, `Start::begin`; other crates.
 use Rattle.std.specs.Prelude.{◌≡◌, ◌⊎◌, ◌≤◌, Bool, false, Result, Err, IsTrue}
 use Rattle.kt_tuple.specs.declared.node.NodeId.{NodeId}
 use Rattle.kt_store.specs.declared.error.StoreError.{StoreError}

@@ -1,7 +1,7 @@
 -- The abstract state of a world.
 -- Cited by Steps, specs/Resuming, specs/Starting, specs/Stepping, specs/auxiliary/Kept, world.rt, `World::bags`,
 --   `World::can`, `World::history`, `World::is_allowed`, `World::is_steady`, `World::permanent_space`,
---   `World::share_shard`, `World::step`, `stepping::make_by_plan`; kt_run, kt_scene, kt_stage.
+--   `World::share_shard`, `World::step`, `stepping::make_by_plan`; other crates.
 use Rattle.std.specs.Prelude.{◌≡◌, Bool, true, false, IsTrue}
 use Rattle.kt_core.specs.declared.world.OpenError.{OpenError}
 use Rattle.kt_core.specs.declared.world.OpenError.TheVariants as opened

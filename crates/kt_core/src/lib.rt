@@ -6,7 +6,6 @@
 //! - Stands on: kt_tuple, kt_script, kt_space, kt_link, kt_shard, kt_worker, kt_vote, kt_history, kt_scenario, kt_ckpt,
 //!   kt_store, kt_protocol, kt_logs, kt_state, kt_node, kt_model, kt_resume, kt_refinement; of the kit: arrayvec,
 //!   thiserror
-//! - Used by: kt_scene, kt_stage, kt_run, kt_command, kt_example, kt_memory_tests
 //! - Begin in: `world.rt`, which has the public calls of a world but for `resume` (`resuming.rt`), then `stepping.rt`
 //!   for the order within a step.
 #![tactic(auto)]

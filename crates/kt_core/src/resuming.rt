@@ -1,5 +1,5 @@
 //! How a world goes on from what a store holds.
-//! Cited by start.rt; kt_command, kt_scene, kt_stage, linda_kt.
+//! Cited by start.rt; other crates.
 
 ghost use Rattle.std.specs.Prelude.{◌≡◌, All, IfErr, IfOk, IsTrue, OnOk};
 ghost use Rattle.kt_store.specs.Calls.{NeverFails};

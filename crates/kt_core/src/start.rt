@@ -1,5 +1,5 @@
 //! The two ways in which a world begins over its store.
-//! Cited by kt_command, kt_quick, kt_run, kt_scene, kt_stage.
+//! Cited by other crates.
 
 ghost use Rattle.std.specs.Prelude.{◌≡◌, IfErr, IfOk, IsTrue};
 ghost use Rattle.kt_store.specs.Calls.{NeverFails};

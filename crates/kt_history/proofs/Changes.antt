@@ -1,5 +1,5 @@
 -- What one more note changes of survival.
--- Cited by Keeping, KeepingActs, KeepingCuts, Sense, `History::add_act`.
+-- Cited by Keeping, KeepingActs, KeepingCuts, Sense, `History::add_act`; other crates.
 use Rattle.std.proofs.Common.{◌≡◌, ◌≢◌, ℕ, suc, ◌+◌, ◌-◌, ◌<◌, ◌≤◌, ◌==◌, ◌&&◌, ◌||◌, not, Bool, true, false, List, [], ◌∷◌}
 use Rattle.std.proofs.Common.{◌++◌, take, drop, length, Option, Some, refl, sym, ap, ◌∙◌, subst, ◌⊎◌, inl, inr, arith, Contains}
 use Rattle.std.specs.List.{slice_get, list_any}

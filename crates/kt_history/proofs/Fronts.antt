@@ -1,6 +1,5 @@
 -- A closed choice of acts is, of each node's acts, a front of its log.
--- Cited by Counts, `laws::closed_choices_are_fronts`, `laws::survivors_are_fronts`; kt_ckpt, kt_logs, kt_model,
---   kt_resume.
+-- Cited by Counts, `laws::closed_choices_are_fronts`, `laws::survivors_are_fronts`; other crates.
 use Rattle.std.proofs.Common.{◌≡◌, ℕ, zero, suc, ◌+◌, ◌<◌, ◌≤◌, Bool, true, false, cond, List, [], ◌∷◌, ◌++◌}
 use Rattle.std.proofs.Common.{take, length, Some, refl, sym, ap, ◌∙◌, subst, inl, inr, arith, Contains, add-zero}
 use Rattle.std.specs.List.{slice_get, cons_option}

@@ -1,6 +1,5 @@
 -- What std lacks on lists.
--- Cited by Changes, Fronts, KeepingCuts, Logs, MarkSteps, Places, Runs, Sense, Survivors; kt_ckpt, kt_core, kt_logs,
---   kt_model, kt_refinement, kt_resume, kt_stage.
+-- Cited by Changes, Fronts, KeepingCuts, Logs, MarkSteps, Places, Runs, Sense, Survivors; other crates.
 use Rattle.std.proofs.Common.{◌≡◌, ℕ, zero, suc, ◌+◌, ◌<◌, ◌==◌, Bool, true, List, [], ◌∷◌, ◌++◌, take, drop}
 use Rattle.std.proofs.Common.{length, Some, refl, sym, ap, ◌∙◌, ◌⊎◌, inl, inr, arith, Contains, zero-add}
 use Rattle.std.specs.List.{slice_get, list_all, list_any}

@@ -1,6 +1,6 @@
 -- How a log grows, and what stands in it.
 -- Cited by Changes, Fronts, Keeping, KeepingActs, KeepingCuts, Pasts, Places, Sense, Survivors,
---   `laws::logs_are_stacks`; kt_ckpt, kt_logs, kt_model, kt_refinement, kt_resume.
+--   `laws::logs_are_stacks`; other crates.
 use Rattle.std.proofs.Common.{◌≡◌, ℕ, zero, suc, ◌+◌, ◌<◌, ◌≤◌, true, false, List, [], ◌∷◌, ◌++◌, take, length}
 use Rattle.std.proofs.Common.{Some, refl, sym, ap, ◌∙◌, subst, ◌⊎◌, inl, inr, arith, Contains, add-zero}
 use Rattle.std.specs.List.{slice_get}

@@ -1,6 +1,6 @@
 -- What happened before what.
--- Cited by Changes, Keeping, KeepingActs, KeepingCuts, Sense, Survivors, `laws::happened_before_is_transitive`;
---   kt_ckpt, kt_model.
+-- Cited by Changes, Keeping, KeepingActs, KeepingCuts, Sense, Survivors, `laws::happened_before_is_transitive`; other
+--   crates.
 use Rattle.std.proofs.Common.{◌≡◌, ℕ, ◌<◌, ◌≤◌, List, [], ◌∷◌, ◌++◌, length, Some, sym, ◌∙◌, subst, inl, inr, arith, Contains}
 use Rattle.kt_history.specs.declared.note.Note.{Note}
 use Rattle.kt_history.specs.declared.note.Note.TheVariants as notes

@@ -1,5 +1,5 @@
 -- A place stays as the history grows; and in a log the places are 1, 2, .. in order.
--- Cited by kt_ckpt, kt_model.
+-- Cited by other crates.
 use Rattle.std.proofs.Common.{◌≡◌, ℕ, zero, suc, ◌+◌, ◌<◌, ◌≤◌, List, [], ◌∷◌, ◌++◌, take, length, Option, Some, None, refl, sym, ap, ◌∙◌, subst, arith}
 use Rattle.std.specs.List.{slice_get}
 use Rattle.std.proofs.lemmas.List.{length-take-le}

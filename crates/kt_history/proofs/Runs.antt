@@ -1,6 +1,5 @@
 -- Runs of the space, whose tuples are known up to their order.
--- Cited by `laws::a_run_has_one_space`, `space::serve`, `space::space_of`, `space::withdraw`; kt_logs, kt_resume,
---   kt_scene.
+-- Cited by `laws::a_run_has_one_space`, `space::serve`, `space::space_of`, `space::withdraw`; other crates.
 use Rattle.std.proofs.Common.{◌≡◌, ℕ, ◌+◌, ◌<◌, ◌≤◌, Bool, true, false, cond, List, [], ◌∷◌, ◌++◌, take, drop, length, get_or}
 use Rattle.std.proofs.Common.{sum_by, Contains, IsPermutation, Option, Some, None, Result, Ok, Err, sym, refl, ap, ◌∙◌, subst, arith}
 use Rattle.std.specs.Prelude.{OnOk}

@@ -1,6 +1,6 @@
 -- Histories that make sense: how they grow, and that without a cut nothing is lost.
 -- Cited by `laws::nothing_is_lost_without_a_cut`, `laws::the_past_goes_back_step_by_step`,
---   `laws::well_formed_histories_grow`; kt_model, kt_refinement.
+--   `laws::well_formed_histories_grow`; other crates.
 use Rattle.std.proofs.Common.{◌≡◌, ◌≢◌, ℕ, suc, List, [], ◌∷◌, ◌++◌, length, Option, None, Some, refl, sym, ap, ◌∙◌, subst, ◌⊎◌, inl, inr, arith, Contains}
 use Rattle.std.proofs.lemmas.List.Elements.{Contains-push}
 use Rattle.kt_tuple.specs.declared.node.NodeId.{NodeId}

@@ -1,6 +1,6 @@
 -- The test of survival is survival, and what survives has its whole past surviving.
 -- Cited by Changes, Fronts, Keeping, KeepingCuts, `History::lost_count`, `History::survivors`,
---   `laws::survival_is_decided`, `laws::survivors_are_fronts`, `laws::survivors_keep_their_past`; kt_logs, kt_model.
+--   `laws::survival_is_decided`, `laws::survivors_are_fronts`, `laws::survivors_keep_their_past`; other crates.
 use Rattle.std.proofs.Common.{◌≡◌, ℕ, zero, suc, ◌<◌, true, List, ◌∷◌, Option, None, Some, refl, sym, ap, ◌∙◌, subst, ◌⊎◌, inl, inr, arith, Contains, Decides}
 use Rattle.std.proofs.lemmas.Bool.{and_parts, and_from, cases_Bool, eq-eqb, false≢true, cases_eq, cond-true, cond-false, ne_eqb}
 use Rattle.kt_tuple.specs.declared.node.NodeId.{NodeId}

@@ -1,5 +1,5 @@
 -- What callers see of a history: its notes, and how many more it takes with no memory asked for.
--- Cited by Room, history.rt, note.rt; kt_ckpt, kt_core, kt_model.
+-- Cited by Room, history.rt, note.rt; other crates.
 use Rattle.std.specs.Prelude.{ℕ, ◌-◌, min, List, map, slice_index_or, vec_len, vec_capacity}
 use Rattle.std.specs.declared.vec.Vec.{Vec}
 use Rattle.std.specs.declared.alloc.Global.{Global}

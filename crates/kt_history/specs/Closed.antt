@@ -1,6 +1,6 @@
 -- Choices of acts that hold the whole past of each of their acts (Koo and Toueg, "Checkpointing and
 -- Rollback-Recovery for Distributed Systems": a consistent set).
--- Cited by Fronts, Survivors, history.rt, laws.rt; kt_ckpt, kt_core, kt_logs, kt_model, kt_refinement, kt_resume.
+-- Cited by Fronts, Survivors, history.rt, laws.rt; other crates.
 use Rattle.std.specs.Prelude.{◌≡◌, ℕ, Bool, IsTrue, List, ◌++◌, Option, None, Some, filter, Contains}
 use Rattle.std.specs.List.{filter_map}
 use Rattle.kt_tuple.specs.declared.node.NodeId.{NodeId}

@@ -1,7 +1,7 @@
 -- A history is its notes, oldest first, numbered from 1. What a node remembers is its log.
 -- Cited by Changes, Fronts, Keeping, KeepingActs, KeepingCuts, Logs, Pasts, Places, Sense, Survivors, history.rt,
 --   laws.rt, rows.rt, specs/Closed, specs/Past, specs/Place, specs/Survival, specs/WellFormed, specs/auxiliary/Marks,
---   `History::add_act`; kt_ckpt, kt_core, kt_logs, kt_model, kt_node, kt_refinement, kt_resume.
+--   `History::add_act`; other crates.
 use Rattle.std.specs.Prelude.{◌≡◌, ℕ, zero, suc, ◌==◌, Bool, if◌then◌else◌, List, [], ◌∷◌, ◌++◌}
 use Rattle.std.specs.Prelude.{◌-◌, length, take, Option, None, Some, slice_get, slice_index}
 use Rattle.kt_tuple.specs.declared.node.NodeId.{NodeId}

@@ -1,7 +1,7 @@
 -- What happened before an act (Lamport, "Time, Clocks, and the Ordering of Events in a Distributed System",
 -- section "The Partial Ordering").
 -- Cited by Changes, Fronts, Pasts, Sense, Survivors, laws.rt, specs/Closed, specs/Survival,
---   `laws::the_past_goes_back_step_by_step`; kt_model, kt_refinement.
+--   `laws::the_past_goes_back_step_by_step`; other crates.
 use Rattle.std.specs.Prelude.{◌≡◌, ◌≢◌, ℕ, List, Some, Contains}
 use Rattle.kt_history.specs.declared.note.Act.{Act}
 use Rattle.kt_history.specs.declared.note.Note.{Note}

@@ -1,6 +1,6 @@
 -- Where an act stood: the length of its node's log when it was appended, the act counted. No cut and no later note
 -- changes it, so with its node it names the act as long as the act stands.
--- Cited by Places, history.rt; kt_ckpt, kt_model.
+-- Cited by Places, history.rt; other crates.
 use Rattle.std.specs.Prelude.{ℕ, ◌+◌, List, length, Option, None, Some}
 use Rattle.kt_history.specs.declared.note.Note.{Note}
 use Rattle.kt_history.specs.declared.note.Note.TheVariants as notes

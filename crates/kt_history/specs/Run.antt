@@ -1,5 +1,5 @@
 -- Services as one run of the sequential space, and what one of them takes out.
--- Cited by space.rt, `space::space_of`; kt_scene.
+-- Cited by space.rt, `space::space_of`; other crates.
 use Rattle.std.specs.Prelude.{List}
 use Rattle.kt_tuple.specs.declared.tuple.Tuple.{Tuple}
 use Rattle.kt_tuple.specs.declared.service.Service.{Service}

@@ -1,7 +1,7 @@
 -- What of a history lasts: the acts with nothing lost in their past, and the services among them.
 -- Cited by Changes, Counts, Fronts, Keeping, KeepingActs, KeepingCuts, Sense, Survivors, history.rt, laws.rt,
 --   note.rt, specs/Closed, specs/auxiliary/Marks, `History::lost_count`, `History::survives`, `History::survivors`,
---   `laws::survivors_are_fronts`; kt_logs, kt_model, kt_refinement, kt_scene.
+--   `laws::survivors_are_fronts`; other crates.
 use Rattle.std.specs.Prelude.{◌≡◌, ◌↔◌, IsTrue, ℕ, zero, suc, ◌==◌, Bool, true, false, not, ◌&&◌}
 use Rattle.std.specs.Prelude.{if◌then◌else◌, List, [], ◌∷◌, Option, None, Some, length, Contains}
 use Rattle.std.specs.List.{filter_map, list_any, list_all}

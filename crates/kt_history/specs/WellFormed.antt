@@ -1,6 +1,6 @@
 -- The histories that make sense: each cause is an earlier act that sent what was heard.
 -- Cited by Changes, Keeping, KeepingActs, KeepingCuts, Pasts, Sense, Survivors, history.rt, laws.rt,
---   specs/auxiliary/Marks; kt_ckpt, kt_core, kt_logs, kt_model, kt_refinement, kt_resume.
+--   specs/auxiliary/Marks; other crates.
 use Rattle.std.specs.Prelude.{◌≡◌, ◌≢◌, ℕ, ◌≤◌, List, Option, None, Some, length, Contains}
 use Rattle.kt_tuple.specs.declared.node.NodeId.{NodeId}
 use Rattle.kt_tuple.specs.declared.node.NodeId.TheVariants.{Worker, Shard}

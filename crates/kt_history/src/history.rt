@@ -1,5 +1,5 @@
 //! Histories: what happened, each node's log, and what survives.
-//! Cited by kt_ckpt, kt_core, kt_memory_tests, kt_node, kt_resume, kt_scene.
+//! Cited by other crates.
 
 ghost use Rattle.std.specs.Prelude.{◌≡◌, ◌≤◌, ◌↔◌, ◌∷◌, ◌++◌, [], IsTrue, IfOk, OnOk, OnErr};
 ghost use Rattle.std.specs.Option.{option_copied};

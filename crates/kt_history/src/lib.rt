@@ -3,8 +3,6 @@
 //! - Contract: an act survives exactly where nothing in its causal past was rolled back (`History::survives`), and the
 //!   survivors are the services that do (`History::survivors`, clause `survive`).
 //! - Stands on: kt_tuple, kt_space
-//! - Used by: kt_ckpt, kt_store, kt_logs, kt_state, kt_node, kt_model, kt_resume, kt_refinement, kt_core, kt_scene,
-//!   kt_stage, kt_example, kt_memory_tests
 //! - Begin in: `note.rt` for what a note is, then `history.rt`. `mark.rt` has what it keeps of each note, so that it
 //!   need not look at the past.
 #![tactic(auto)]

@@ -1,5 +1,5 @@
 //! Notes: what a node did, or gave up.
-//! Cited by equality.rt, history.rt, mark.rt; kt_ckpt, kt_core, kt_node, kt_resume, kt_state.
+//! Cited by equality.rt, history.rt, mark.rt; other crates.
 
 ghost use Rattle.std.specs.Prelude.{◌≡◌, IfOk};
 

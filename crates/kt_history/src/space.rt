@@ -1,5 +1,5 @@
 //! The tuples that services lead to.
-//! Cited by kt_scene.
+//! Cited by other crates.
 
 ghost use Rattle.std.specs.Prelude.{◌≡◌, ◌∷◌, Contains, IsPermutation, IfOk, OnOk};
 ghost use Rattle.kt_tuple.specs.Space.{SpaceStep, IsSpaceRun};

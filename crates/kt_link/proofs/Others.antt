@@ -1,5 +1,5 @@
 -- What changes one link leaves the others.
--- Cited by `laws::other_links_stay`; kt_core.
+-- Cited by `laws::other_links_stay`; other crates.
 use Rattle.std.proofs.Common.{◌≡◌, ℕ, List, [], Option, None, Some, refl, ap, ◌∙◌}
 use Rattle.std.proofs.lemmas.List.{get_or-set_other}
 use Rattle.kt_tuple.specs.declared.node.NodeId.{NodeId}

@@ -1,5 +1,5 @@
 -- Neighbours have a place of their own, and nobody else has one.
--- Cited by Others, `laws::neighbours_have_their_own_places`; kt_model, kt_refinement, kt_scenario, kt_stage.
+-- Cited by Others, `laws::neighbours_have_their_own_places`; other crates.
 use Rattle.std.proofs.Common.{◌≡◌, ℕ, suc, ◌+◌, ◌-◌, ◌*◌, ◌/◌, ◌≤◌, ◌<◌, ◌&&◌, Bool, true, false, nat_le, Option, None, Some, refl, sym, ap, ◌∙◌, arith}
 use Rattle.std.specs.Option.{option_map}
 use Rattle.std.specs.Prelude.{is_some, IsTrue, if◌then◌else◌}

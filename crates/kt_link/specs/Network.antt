@@ -1,6 +1,5 @@
 -- What the links between workers and shards hold, and where the queue of a pair of nodes stands.
--- Cited by Changed, Others, Places, laws.rt, links.rt, specs/auxiliary/Queues; kt_core, kt_model, kt_refinement,
---   kt_stage.
+-- Cited by Changed, Others, Places, laws.rt, links.rt, specs/auxiliary/Queues; other crates.
 use Rattle.std.specs.Prelude.{◌≡◌, ℕ, suc, ◌+◌, ◌-◌, ◌*◌, ◌≤◌, ◌&&◌, nat_le, if◌then◌else◌, Bool}
 use Rattle.std.specs.Prelude.{List, [], Option, None, Some, slice_index_or, set}
 use Rattle.std.specs.Option.{option_map}

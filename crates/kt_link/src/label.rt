@@ -1,5 +1,5 @@
 //! Labels of messages.
-//! Cited by laws.rt, tests.rt; kt_ckpt, kt_node, kt_resume, kt_state.
+//! Cited by laws.rt; other crates.
 
 ghost use Rattle.std.specs.Prelude.{◌↔◌, IsTrue};
 

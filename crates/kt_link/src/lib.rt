@@ -3,7 +3,6 @@
 //! - Contract: a message is sent behind all others of its pair (`Links::push`, clause `sent`) and taken off in front of
 //!   them (`Links::pop`, clause `first`). No call touches another pair's queue (clause `alone`).
 //! - Stands on: kt_tuple
-//! - Used by: kt_scenario, kt_ckpt, kt_state, kt_node, kt_model, kt_resume, kt_refinement, kt_core, kt_stage
 //! - Begin in: `links.rt`, then `label.rt`.
 #![tactic(auto)]
 
@@ -17,6 +16,3 @@ pub use laws::{
     other_links_stay,
 };
 pub use links::Links;
-
-#[cfg(test)]
-mod tests;

@@ -1,5 +1,5 @@
 -- Bags: a tuple taken out of a bag, and what a filter keeps of it.
--- Cited by Causes, Follows, Homes, Orders, Permutations, Shares, Traces; kt_model.
+-- Cited by Causes, Follows, Homes, Orders, Permutations, Shares, Traces; other crates.
 use Rattle.std.proofs.Common.{◌≡◌, zero, suc, Bool, true, false, cond, List, [], ◌∷◌, filter, Contains}
 use Rattle.std.proofs.Common.{IsPermutation, ◌⊎◌, inl, inr, sym, refl, ap, ◌∙◌, subst, arith}
 use Rattle.std.proofs.lemmas.Bool.{false≢true}

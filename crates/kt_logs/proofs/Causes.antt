@@ -1,5 +1,5 @@
 -- In a well-formed history the causes of a closed choice of acts come first among them.
--- Cited by Survive; kt_model, kt_resume.
+-- Cited by Survive; other crates.
 use Rattle.std.proofs.Common.{◌≡◌, ◌≢◌, ℕ, zero, suc, ◌<◌, Bool, true, false, cond, Some, List, [], ◌∷◌, ◌++◌, length, Contains}
 use Rattle.std.proofs.Common.{inl, inr, sym, refl, ap, ◌∙◌, subst, append_assoc, length-append, IsTrue, slice_get, arith}
 use Rattle.std.proofs.lemmas.Bool.{cases_eq}

@@ -1,5 +1,5 @@
 -- One more note keeps logs legal: an act that its node may make, and any cut.
--- Cited by kt_model, kt_resume.
+-- Cited by other crates.
 use Rattle.std.proofs.Common.{◌≡◌, ℕ, Bool, true, false, Option, List, [], ◌∷◌, ◌++◌, take, drop, take-append-drop, sym, refl, ap, ◌∙◌, subst, append-nil}
 use Rattle.kt_tuple.specs.declared.node.NodeId.{NodeId}
 use Rattle.kt_tuple.specs.declared.node.NodeId.TheVariants as nodes

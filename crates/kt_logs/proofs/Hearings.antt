@@ -1,5 +1,5 @@
 -- Going back through a shard's log finds the last hearing of a worker.
--- Cited by kt_core.
+-- Cited by other crates.
 use Rattle.std.proofs.Common.{◌≡◌, ℕ, true, false, List, [], ◌∷◌, ◌++◌, Option, Some, None, refl, sym, ap, ◌∙◌}
 use Rattle.std.specs.Prelude.{find, reverse}
 use Rattle.std.specs.List.{cons_option}

@@ -1,5 +1,5 @@
 -- Homes: what matches has one signature, so one home shard; a step on the home's share of the space is a step on the space.
--- Cited by OneRun, Shares, Survive; kt_model.
+-- Cited by OneRun, Shares, Survive; other crates.
 use Rattle.std.proofs.Common.{◌≡◌, ◌≢◌, ℕ, Bool, true, false, List, [], ◌∷◌, filter, Contains, IsPermutation, sym, refl, ap, ap₂, ◌∙◌, eqb, eq-eqb, ne_eqb}
 use Rattle.std.proofs.lemmas.List.Sorted.{IsPermutation-refl, IsPermutation-sym, Contains-permutation}
 use Rattle.kt_tuple.specs.declared.value.Value.{Value}

@@ -1,5 +1,5 @@
 -- What holds of each element of a list holds of one that it contains, and of each of two lists together.
--- Cited by NamedCauses; kt_model, kt_refinement.
+-- Cited by NamedCauses; other crates.
 use Rattle.std.proofs.Common.{List, [], ◌∷◌, ◌++◌, Contains, inl, inr, subst}
 use Rattle.std.specs.List.{AllByRecursion}
 use Rattle.kt_history.proofs.Shared.{Contains-none, Contains-cons_cases}

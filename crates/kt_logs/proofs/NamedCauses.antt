@@ -1,5 +1,5 @@
 -- The cause that is found for a service is an act.
--- Cited by kt_model.
+-- Cited by other crates.
 use Rattle.std.proofs.Common.{◌≡◌, ◌≢◌, ℕ, Bool, true, false, cond, List, [], ◌∷◌, reverse, Option, None, Some, refl, sym, subst}
 use Rattle.std.specs.Prelude.{find}
 use Rattle.std.specs.List.{cons_option, AllByRecursion}

@@ -1,5 +1,5 @@
 -- Tables with a row for each number, and names of nodes: what holds of a row that was put, and of the others.
--- Cited by Follows, Merge, OneRun, Traces; kt_model, kt_resume.
+-- Cited by Follows, Merge, OneRun, Traces; other crates.
 use Rattle.std.proofs.Common.{◌≡◌, ◌≢◌, ℕ, false, eq-eqb, ne_eqb, inl, inr, sym, refl, ap, subst}
 use Rattle.std.proofs.lemmas.Bool.{cases_eq, eqb-false}
 use Rattle.kt_tuple.specs.declared.node.NodeId.{NodeId}

@@ -1,5 +1,5 @@
 -- Bags that differ in order alone: what is added to both or taken from both leaves them so, and a step on one is a step on the other.
--- Cited by kt_model, kt_resume.
+-- Cited by other crates.
 use Rattle.std.proofs.Common.{List, ◌∷◌, Contains, IsPermutation}
 use Rattle.std.proofs.lemmas.List.Sorted.{IsPermutation-refl, IsPermutation-sym, IsPermutation-trans, IsPermutation-cons, Contains-permutation}
 use Rattle.kt_tuple.specs.declared.tuple.Tuple.{Tuple}

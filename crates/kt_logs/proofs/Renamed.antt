@@ -1,5 +1,5 @@
 -- A log is one that its node may make whatever numbers its causes have, as long as causes that were the same stay so.
--- Cited by SameServices; kt_model.
+-- Cited by SameServices; other crates.
 use Rattle.std.proofs.Common.{◌≡◌, ℕ, Bool, true, false, if◌then◌else◌, ◌==◌, List, [], ◌∷◌, Option, Some, None, sym, refl, ap, ◌∙◌, subst}
 use Rattle.kt_tuple.specs.declared.tuple.Tuple.{Tuple}
 use Rattle.kt_tuple.specs.declared.node.NodeId.{NodeId}

@@ -1,5 +1,5 @@
 -- Reading a table where something was put, and elsewhere.
--- Cited by kt_core.
+-- Cited by other crates.
 use Rattle.std.proofs.Common.{◌≡◌, ℕ, zero, suc, ◌+◌, ◌<◌, List, [], ◌∷◌, length, get_or, map, set, refl, sym, ap, ◌∙◌, arith}
 use Rattle.std.proofs.lemmas.List.{get_or_default}
 use Rattle.kt_shard.specs.Table.{at, put}

@@ -1,5 +1,5 @@
 -- Lists of acts in which each node did the same have the same services, in some order.
--- Cited by kt_model.
+-- Cited by other crates.
 use Rattle.std.proofs.Common.{◌≡◌, ◌⊎◌, ℕ, Bool, true, false, List, [], ◌∷◌, ◌++◌, cond, filter, Option, Some, None, inl, inr, refl, sym, ap, ◌∙◌, subst}
 use Rattle.std.specs.Prelude.{IsPermutation}
 use Rattle.std.specs.List.{cons_option, filter_map}

@@ -1,5 +1,5 @@
 -- The shares of all shards together are the whole space.
--- Cited by kt_model.
+-- Cited by other crates.
 use Rattle.std.proofs.Common.{◌≡◌, ℕ, zero, suc, ◌+◌, ◌<◌, ◌≤◌, true, cond, List, [], ◌∷◌, ◌++◌, filter, Contains}
 use Rattle.std.proofs.Common.{IsPermutation, inl, inr, refl, sym, ap, ◌∙◌, subst, eqb, eq-eqb, ne_eqb, mod-lt, arith}
 use Rattle.std.specs.List.{flat_map, range_with_len}

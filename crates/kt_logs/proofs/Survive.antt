@@ -1,5 +1,5 @@
 -- The acts of a closed choice, and so the survivors, are one run of the sequential space and follow the scripts.
--- Cited by Growth; kt_model, kt_refinement.
+-- Cited by Growth; other crates.
 use Rattle.std.proofs.Common.{◌≡◌, ℕ, Bool, Option, List, [], ◌∷◌, ◌++◌, filter, Contains, sym, refl, ap, ◌∙◌, subst, append-nil, IsTrue}
 use Rattle.std.proofs.lemmas.List.Elements.{Contains-append_right}
 use Rattle.kt_tuple.specs.declared.node.NodeId.{NodeId}

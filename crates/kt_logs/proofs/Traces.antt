@@ -1,5 +1,5 @@
 -- What waits at a shard was heard in its log, what it keeps was served there, and the last hearing has the cause.
--- Cited by kt_model, kt_refinement, kt_resume.
+-- Cited by other crates.
 use Rattle.std.proofs.Common.{if◌then◌else◌, ◌==◌, ◌≡◌, ℕ, Bool, true, false, ◌&&◌, List, [], ◌∷◌, reverse, Contains}
 use Rattle.std.proofs.Common.{Option, Some, None, ◌⊎◌, inl, inr, sym, refl, ap, ◌∙◌, subst, eq-eqb, ne_eqb}
 use Rattle.std.specs.List.{find, cons_option}

@@ -1,5 +1,5 @@
 -- What an operation leaves of a bag.
--- Cited by Bags, Homes, OneRun, Permutations, Renamed, specs/ShardLog; kt_model, kt_resume.
+-- Cited by Bags, Homes, OneRun, Permutations, Renamed, specs/ShardLog; other crates.
 use Rattle.std.specs.Prelude.{cond, List, [], ◌∷◌}
 use Rattle.kt_tuple.specs.declared.tuple.Tuple.{Tuple}
 use Rattle.kt_tuple.specs.declared.op.Op.{Op}

@@ -1,5 +1,5 @@
 -- The cause of a service: that of the hearing which put the request in waiting.
--- Cited by Hearings, NamedCauses, Traces; kt_core, kt_model, kt_refinement, kt_run.
+-- Cited by Hearings, NamedCauses, Traces; other crates.
 use Rattle.std.specs.Prelude.{ℕ, ◌==◌, Bool, true, false, ◌&&◌, find, reverse, List, Option, None, Some}
 use Rattle.kt_tuple.specs.declared.node.NodeId.{NodeId}
 use Rattle.kt_history.specs.declared.note.What.{What}

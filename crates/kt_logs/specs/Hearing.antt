@@ -1,5 +1,5 @@
 -- Where a service comes from: the shard had heard the request.
--- Cited by kt_model.
+-- Cited by other crates.
 use Rattle.std.specs.Prelude.{◌≡◌, List, Contains}
 use Rattle.kt_history.specs.declared.note.Act.{Act}
 use Rattle.kt_history.specs.declared.note.What.TheVariants.{Heard}

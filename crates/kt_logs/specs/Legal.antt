@@ -1,5 +1,5 @@
 -- When each node's log is one that the node may make.
--- Cited by Follows, Growth, Merge, OneRun, Renamed, Survive; kt_core, kt_model, kt_resume.
+-- Cited by Follows, Growth, Merge, OneRun, Renamed, Survive; other crates.
 use Rattle.std.specs.Prelude.{List}
 use Rattle.kt_tuple.specs.declared.node.NodeId.{NodeId}
 use Rattle.kt_tuple.specs.declared.node.NodeId.TheVariants as nodes

@@ -1,5 +1,5 @@
 -- Each worker's requests are its script's, in order.
--- Cited by Follows, Growth, Merge, OneRun, Orders, Renamed, Survive, specs/Legal; kt_model, kt_resume.
+-- Cited by Follows, Growth, Merge, OneRun, Orders, Renamed, Survive, specs/Legal; other crates.
 use Rattle.std.specs.Prelude.{◌≡◌, ℕ, suc, ◌==◌, Option, Some, List, [], ◌∷◌, ◌++◌, length, filter}
 use Rattle.kt_tuple.specs.declared.op.Op.{Op}
 use Rattle.kt_tuple.specs.declared.op.Answer.{Answer}

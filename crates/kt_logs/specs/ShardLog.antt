@@ -1,5 +1,5 @@
 -- The log of a shard: which acts it may make one after the other, and what they make of it.
--- Cited by Follows, Growth, Merge, Numbered, OneRun, Renamed, Survive, Traces, specs/Legal; kt_model, kt_resume.
+-- Cited by Follows, Growth, Merge, Numbered, OneRun, Renamed, Survive, Traces, specs/Legal; other crates.
 use Rattle.std.specs.Prelude.{◌≡◌, ℕ, ◌<◌, ◌≤◌, ◌==◌, if◌then◌else◌, Some, None, List, [], ◌∷◌}
 use Rattle.kt_tuple.specs.declared.tuple.Tuple.{Tuple}
 use Rattle.kt_tuple.specs.declared.op.Answer.{Answer}

@@ -1,5 +1,5 @@
 -- The log of a worker: which acts it may make one after the other, and what they make of it.
--- Cited by Follows, Growth, Merge, OneRun, Renamed, Survive, specs/Legal; kt_model, kt_resume.
+-- Cited by Follows, Growth, Merge, OneRun, Renamed, Survive, specs/Legal; other crates.
 use Rattle.std.specs.Prelude.{◌≡◌, ℕ, suc, Option, Some, None, List, [], ◌∷◌, ◌++◌, length}
 use Rattle.kt_tuple.specs.declared.op.Op.{Op}
 use Rattle.kt_tuple.specs.declared.op.Answer.{Answer}

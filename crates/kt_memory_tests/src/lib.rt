@@ -4,7 +4,6 @@
 //! - Contract: none, since these are tests. They try clauses such as `same` of `World::step`: refused for want of
 //!   memory, a step changes nothing.
 //! - Stands on: kt_tuple, kt_script, kt_history, kt_store, kt_core, kt_scene
-//! - Used by: none
 //! - Begin in: `hoard.rt`, which takes the memory away, then `scenarios.rt` for texts and `worlds.rt` for steps.
 #![tactic(auto)]
 

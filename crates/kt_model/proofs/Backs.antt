@@ -1,5 +1,5 @@
 -- What a plan has whose write the store allows and that leaves the state backed, told of its parts.
--- Cited by AllInstanceRows, CheckLeaves, FailLeaves, Fit, RollLeaves, Settling, StaysBacked; kt_refinement.
+-- Cited by AllInstanceRows, CheckLeaves, FailLeaves, Fit, RollLeaves, Settling, StaysBacked; other crates.
 use Rattle.std.proofs.Common.{◌≡◌, ◌≢◌, ℕ, ◌+◌, ◌≤◌, Bool, true, false, List, [], Contains, Option, None, Some, inl, inr, refl, sym, ap, ◌∙◌, subst, arith}
 use Rattle.std.specs.Prelude.{IfSome, unwrap_or, is_some}
 use Rattle.std.specs.List.{AllByRecursion}

@@ -1,5 +1,5 @@
 -- The board: the next instance is free, an open instance is found by its number, and a board stays one.
--- Cited by Backs, Newer, Noes, Resuming, StaysBacked, Writes; kt_refinement.
+-- Cited by Backs, Newer, Noes, Resuming, StaysBacked, Writes; other crates.
 use Rattle.std.proofs.Common.{◌≡◌, ℕ, suc, ◌+◌, ◌≤◌, ◌==◌, Bool, true, false, ◌&&◌, cond, List, [], ◌∷◌, map, All}
 use Rattle.std.proofs.Common.{AllPairs, get_or, Option, None, Some, refl, sym, ap, ◌∙◌, subst, inl, inr, arith}
 use Rattle.std.specs.Prelude.{fold, max, nat_lt}

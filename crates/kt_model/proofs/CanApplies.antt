@@ -1,5 +1,5 @@
 -- In a ready state every plan can be carried out, and leaves the state ready, whatever the store says.
--- Cited by Holding, Kept, StepPlans; kt_core.
+-- Cited by Holding, Kept, StepPlans; other crates.
 use Rattle.std.proofs.Common.{◌≡◌, ◌<◌, true, false, [], List, Contains, None, sym, subst, length}
 use Rattle.std.specs.Prelude.{IsTrue}
 use Rattle.kt_tuple.specs.declared.node.NodeId.{NodeId}

@@ -1,5 +1,5 @@
 -- The plans of checks keep a state sound: a node takes its tentative checkpoint, and learns what becomes of it.
--- Cited by FailLeaves, StepSound; kt_refinement.
+-- Cited by FailLeaves, StepSound; other crates.
 use Rattle.std.proofs.Common.{◌≡◌, ℕ, Bool, true, false, List, [], Option, Some, None, refl, sym, ap, ◌∙◌, arith}
 use Rattle.std.specs.Prelude.{unwrap_or}
 use Rattle.kt_tuple.specs.declared.node.NodeId.{NodeId}

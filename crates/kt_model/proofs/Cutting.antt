@@ -1,5 +1,5 @@
 -- A plan that cuts its node's log keeps a state sound where what the node becomes and what is stored suit what is left.
--- Cited by FailLeaves, RollLeaves, StaysBacked; kt_refinement.
+-- Cited by FailLeaves, RollLeaves, StaysBacked; other crates.
 use Rattle.std.proofs.Common.{◌≡◌, ℕ, ◌+◌, ◌≤◌, Bool, true, false, if◌then◌else◌, List, [], ◌∷◌, ◌++◌, length}
 use Rattle.std.proofs.Common.{take, Contains, Option, Some, None, Result, Ok, Err, refl, sym, ap, subst, arith}
 use Rattle.std.specs.Option.{option_map}

@@ -1,6 +1,6 @@
 -- The plans of failures and rollbacks keep a state sound: a node fails, learns while it is down, rolls back, and
 -- restarts.
--- Cited by Kept, RollLeaves, StepSound; kt_refinement.
+-- Cited by Kept, RollLeaves, StepSound; other crates.
 use Rattle.std.proofs.Common.{◌≡◌, ℕ, ◌≤◌, ◌∷◌, ◌++◌, true, List, [], length, take, Option, Some, None, refl, sym, ap, ◌∙◌, subst, arith}
 use Rattle.std.specs.Prelude.{IsTrue, is_some, unwrap_or}
 use Rattle.std.specs.Option.{option_map}

@@ -1,6 +1,6 @@
 -- What is stored of a node is its own, and a node that is not down has nothing tentative that is longer than its log.
 -- So what an honest store gives fits.
--- Cited by Fitting, Gives, Holding, Kept, NeverUnfit, Resuming, Undamaged; kt_refinement.
+-- Cited by Fitting, Gives, Holding, Kept, NeverUnfit, Resuming, Undamaged; other crates.
 use Rattle.std.proofs.Common.{◌≡◌, ◌≢◌, ℕ, ◌+◌, ◌≤◌, Bool, true, false, List, [], ◌∷◌, ◌++◌, length, Option, None, Some, refl, sym, ap, subst, arith}
 use Rattle.std.proofs.Common.{inl, inr, length-append}
 use Rattle.std.specs.Prelude.{IfSome}

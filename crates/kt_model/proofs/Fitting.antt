@@ -1,5 +1,5 @@
 -- What fits node by node fits as a whole: of nodes of which the store holds nothing there are no acts.
--- Cited by kt_core.
+-- Cited by other crates.
 use Rattle.std.proofs.Common.{◌≡◌, ◌≢◌, ◌⊎◌, ℕ, zero, suc, ◌+◌, ◌≤◌, ◌<◌, Bool, true, false, List, [], ◌∷◌, ◌++◌, length, slice_get, Contains, cond, Option}
 use Rattle.std.proofs.Common.{None, Some, inl, inr, refl, sym, ap, ◌∙◌, subst, arith}
 use Rattle.std.proofs.Common.{length-append}

@@ -1,5 +1,5 @@
 -- What a step leaves: to carry out a plan changes its owner's row, and all others stay.
--- Cited by Applying, Backs, FirstCut, Fit, Good, Newer, Settling; kt_refinement.
+-- Cited by Applying, Backs, FirstCut, Fit, Good, Newer, Settling; other crates.
 use Rattle.std.proofs.Common.{◌≡◌, ◌≢◌, ℕ, List, Option, None, inl, inr, sym, ap, subst}
 use Rattle.std.specs.Option.{option_map}
 use Rattle.std.proofs.lemmas.Bool.{cases_eq}

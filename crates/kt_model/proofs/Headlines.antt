@@ -1,6 +1,6 @@
 -- Of a sound state: the survivors are one run and in order; and where all that is remembered survives, the
 -- shards hold that run's tuples.
--- Cited by Lasting; kt_refinement.
+-- Cited by Lasting; other crates.
 use Rattle.std.proofs.Common.{◌≡◌, ℕ, ◌≤◌, true, List, filter, Contains, IsPermutation, IsTrue, sym, subst, le-leb, arith}
 use Rattle.std.specs.List.{range_with_len}
 use Rattle.std.specs.Prelude.{nat_le}

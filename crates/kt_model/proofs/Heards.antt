@@ -1,5 +1,5 @@
 -- The ways in which a live node hears an underlying message: what is known there, and the plan.
--- Cited by AllInstanceRows, FirstCut, Fit, GoodActs, HeldActs, Newer, StaysBacked; kt_refinement.
+-- Cited by AllInstanceRows, FirstCut, Fit, GoodActs, HeldActs, Newer, StaysBacked; other crates.
 use Rattle.std.proofs.Common.{◌≡◌, ◌<◌, ◌≤◌, Bool, true, false, if◌then◌else◌, Option, Some, None, refl}
 use Rattle.std.specs.Prelude.{nat_lt}
 use Rattle.std.proofs.lemmas.Bool.{ltb-true, ltb-false}

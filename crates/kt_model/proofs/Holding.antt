@@ -1,6 +1,6 @@
 -- What every state keeps that steps lead to from an opening: it is ready, backed by what is stored, and sound, and calm
 -- while it has no cut. So the survivors of each are one run, and each step notes one thing at most.
--- Cited by Kept, Lasting; kt_refinement, kt_run.
+-- Cited by Kept, Lasting; other crates.
 use Rattle.std.proofs.Common.{◌≡◌, length, ◌<◌, List, [], ◌∷◌, Result, Ok, Err, refl, subst, None}
 use Rattle.kt_tuple.specs.declared.node.NodeId.{NodeId}
 use Rattle.kt_history.specs.WellFormed.{HasNoCut}

@@ -1,6 +1,6 @@
 -- What every state keeps that steps lead to, from an opening or from what a store holds that fits: it is ready and backed,
 -- and with all settled that was found it is sound.
--- Cited by Lasting, NeverUnfit; kt_core, kt_refinement.
+-- Cited by Lasting, NeverUnfit; other crates.
 use Rattle.std.proofs.Common.{◌≡◌, ℕ, zero, suc, ◌+◌, ◌≤◌, ◌-◌, ◌==◌, cond, map, if◌then◌else◌, ◌⊎◌, Bool, true, false, List, [], ◌∷◌, length, Option, None}
 use Rattle.std.proofs.Common.{Some, Result, Ok, Err, inl, inr, refl, sym, ap, ◌∙◌, subst, arith}
 use Rattle.std.specs.Prelude.{IfSome, IsTrue, is_some, unwrap_or, fold, max}

@@ -4,7 +4,7 @@
 --   `laws::only_a_failure_makes_the_first_cut`, `laws::services_have_the_cause_of_their_hearing`,
 --   `laws::steps_note_one_thing_at_most`, `laws::survivors_are_one_run`,
 --   `laws::the_store_of_an_opened_world_is_never_full`, `laws::without_a_cut_nothing_is_lost`,
---   `laws::workers_stand_as_their_answers_say`; kt_core, kt_refinement.
+--   `laws::workers_stand_as_their_answers_say`; other crates.
 use Rattle.std.proofs.Common.{◌≡◌, ℕ, length, ◌++◌, ◌<◌, ◌≤◌, Bool, true, false, List, ◌∷◌, Option, None, Some, Result, Ok, Err, inl, inr, refl, sym, ap, ◌∙◌}
 use Rattle.std.proofs.Common.{subst, arith}
 use Rattle.std.specs.Prelude.{IfSome, IsTrue, is_some}

@@ -1,5 +1,5 @@
 -- What holds of each element of a list, of its map, of what is kept of it.
--- Cited by Backs, FirstCut, Good, GoodAsks, Leaves, Newer, Saves; kt_core, kt_refinement.
+-- Cited by Backs, FirstCut, Good, GoodAsks, Leaves, Newer, Saves; other crates.
 use Rattle.std.proofs.Common.{◌≡◌, ℕ, zero, suc, ◌+◌, ◌<◌, ◌≤◌, Bool, true, false, cond, List, [], ◌∷◌, map, filter, length, Contains, refl, ap, arith}
 use Rattle.std.specs.List.{AllByRecursion}
 use Rattle.kt_history.proofs.Shared.{Contains-here, Contains-there}

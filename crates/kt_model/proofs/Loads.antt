@@ -1,5 +1,5 @@
 -- A node that is loaded from what is stored is ready, whatever is stored: a checkpoint that does not fit is refused.
--- Cited by FitBodies, GoodAsks, Newer, Opened, Saves; kt_refinement.
+-- Cited by FitBodies, GoodAsks, Newer, Opened, Saves; other crates.
 use Rattle.std.proofs.Common.{◌≡◌, ℕ, zero, suc, ◌+◌, ◌==◌, ◌≤◌, Bool, true, false, not, ◌&&◌, if◌then◌else◌, List, []}
 use Rattle.std.proofs.Common.{◌∷◌, ◌++◌, length, take, Option, None, Some, Result, Ok, Err, refl, ap, subst, arith, length-append}
 use Rattle.std.specs.Prelude.{IsTrue, IfSome, is_none, nat_lt, nat_le, unwrap_or}

@@ -1,5 +1,5 @@
 -- What a world leaves in its store fits its scene, whatever steps were made: so it can be resumed.
--- Cited by ResumedServices; kt_refinement.
+-- Cited by ResumedServices; other crates.
 use Rattle.std.proofs.Common.{◌≡◌, ◌≢◌, ◌⊎◌, ℕ, zero, suc, ◌+◌, ◌<◌, ◌≤◌, ◌^◌, Bool, true, false, List, [], ◌∷◌, length, map, take, filter, slice_get, get_or}
 use Rattle.std.proofs.Common.{Contains}
 use Rattle.std.proofs.Common.{Option, None, Some, inl, inr, refl, sym, ap, ◌∙◌, subst, arith}

@@ -1,6 +1,6 @@
 -- What one more note makes of logs: an act, a cut, or none. What a message carries stays.
 -- Cited by ActKeeps, Applying, CheckLeaves, Cutting, Fit, Gives, HeldActs, LogsAfter, PermanentPart, Resuming, Saves,
---   ShardPlans, WorkerPlans; kt_refinement.
+--   ShardPlans, WorkerPlans; other crates.
 use Rattle.std.proofs.Common.{◌≡◌, ◌≢◌, ℕ, suc, ◌+◌, false, List, [], ◌∷◌, ◌++◌, length}
 use Rattle.std.proofs.Common.{Contains, Option, Some, None, refl, sym, ap, ◌∙◌, subst, ne_eqb, add-one}
 use Rattle.std.specs.List.{cons_option}

@@ -1,5 +1,5 @@
 -- What is on a link after a step was on it before, or was sent just now.
--- Cited by ActLeaves, Applying, Backs, FirstCut, Good, GoodActs, Newer; kt_refinement.
+-- Cited by ActLeaves, Applying, Backs, FirstCut, Good, GoodActs, Newer; other crates.
 use Rattle.std.proofs.Common.{◌≡◌, ℕ, List, [], ◌∷◌, ◌++◌, length, drop, set, Contains, Option, Some, None, ◌⊎◌, inl, inr, refl, sym, ap, ◌∙◌, subst}
 use Rattle.std.proofs.lemmas.Bool.{cases_eq, cases_lt}
 use Rattle.std.proofs.lemmas.List.{get_or-set_other, get_or-set_same, set_past}

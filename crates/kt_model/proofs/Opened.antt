@@ -1,5 +1,5 @@
 -- A world that was just opened is ready, and backed.
--- Cited by FirstCut, Holding, Kept, OpenedSound, Resuming; kt_core, kt_refinement.
+-- Cited by FirstCut, Holding, Kept, OpenedSound, Resuming; other crates.
 use Rattle.std.proofs.Common.{Option, None, Some, if◌then◌else◌, ◌≡◌, ℕ, zero, suc, ◌+◌, ◌*◌, ◌<◌, ◌≤◌, Bool, true}
 use Rattle.std.proofs.Common.{false, List, [], ◌∷◌, ◌++◌, length, replicate, Contains, ◌⊎◌, inl, inr, refl, sym, ap, ◌∙◌, subst, length-append, arith}
 use Rattle.std.proofs.lemmas.Bool.{cases_lt}

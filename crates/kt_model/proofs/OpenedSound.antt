@@ -1,5 +1,5 @@
 -- A world that was just opened is sound.
--- Cited by Fitting, Holding, Resuming; kt_resume.
+-- Cited by Fitting, Holding, Resuming; other crates.
 use Rattle.std.proofs.Common.{Option, None, Some, if◌then◌else◌, ℕ, ◌+◌, ◌*◌, Bool, true, false, List}
 use Rattle.std.proofs.Common.{[], replicate, Contains, inl, inr, refl, sym, subst, arith}
 use Rattle.std.proofs.lemmas.Bool.{cases_lt}

@@ -1,5 +1,5 @@
 -- What was passed where something is planned: each test and each case on the way to an Ok.
--- Cited by ActsFound, ArrivalsFound, Gives, PlansFound, Saves, StepsFound; kt_core, kt_run.
+-- Cited by ActsFound, ArrivalsFound, Gives, PlansFound, Saves, StepsFound; other crates.
 use Rattle.std.proofs.Common.{◌≡◌, ◌∙◌, ℕ, nat_le, is_some, ◌<◌, ◌&&◌, ◌||◌, arith, Bool, true, false, if◌then◌else◌, Option, Some, None, Result, Ok, Err, refl}
 use Rattle.std.proofs.Common.{ap, length}
 use Rattle.std.specs.Prelude.{unwrap_or, IsTrue, nat_lt}

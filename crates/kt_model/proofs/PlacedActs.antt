@@ -1,5 +1,5 @@
 -- What is placed of each node are the first of the acts that its permanent checkpoint holds, each as it is held there.
--- Cited by AllPlaced, NeverUnfit, Resuming; kt_resume.
+-- Cited by AllPlaced, NeverUnfit, Resuming; other crates.
 use Rattle.std.proofs.Common.{◌≡◌, ◌≢◌, ℕ, zero, suc, ◌+◌, ◌≤◌, List, [], ◌∷◌, ◌++◌, length, map, take, slice_get, Option, None, Some, inl, inr, refl, sym, ap}
 use Rattle.std.proofs.Common.{◌∙◌, subst, arith}
 use Rattle.std.proofs.Common.{length-append}

@@ -4,7 +4,7 @@
 -- them, here and in kt_refinement.
 -- Cited by ActKeeps, ActLeaves, ActsFound, AllInstanceRows, ArrivalsFound, Backs, CanApplies, CheckLeaves,
 --   FailLeaves, FirstCut, Fit, Good, GoodActs, GoodAsks, Headlines, HeldActs, Holding, Leaves, LogsAfter, Newer,
---   OnLinks, Passed, PlansFound, QuietLeaves and 7 more; kt_refinement.
+--   OnLinks, Passed, PlansFound, QuietLeaves and 7 more; other crates.
 use Rattle.std.proofs.Common.{◌≡◌, ℕ, Bool, true, false, List, [], ◌∷◌, Some, None, Ok}
 use Rattle.std.specs.Prelude.{is_some, IsTrue}
 use Rattle.kt_tuple.specs.declared.node.NodeId.{NodeId}

@@ -1,6 +1,5 @@
 -- Every plan is made in one of the ways that are listed, before the last step.
--- Cited by AllInstanceRows, Holding, Kept, Lasting, OwnRows, Settling, StepPlans; kt_core, kt_refinement, kt_run,
---   kt_stage.
+-- Cited by AllInstanceRows, Holding, Kept, Lasting, OwnRows, Settling, StepPlans; other crates.
 use Rattle.std.proofs.Common.{◌≡◌, ◌<◌, Ok, length}
 use Rattle.kt_state.specs.declared.plan.Plan.{Plan}
 use Rattle.std.specs.Prelude.{IsTrue}

@@ -1,5 +1,5 @@
 -- The services of a resumed world are those that the permanent checkpoints hold, in some order.
--- Cited by kt_refinement.
+-- Cited by other crates.
 use Rattle.std.proofs.Common.{◌≡◌, ℕ, List, Contains, take, sym, subst}
 use Rattle.std.specs.Prelude.{IsPermutation, IsTrue}
 use Rattle.kt_tuple.specs.declared.node.NodeId.{NodeId}

@@ -1,5 +1,5 @@
 -- A world that goes on from what a store holds that fits: what is stored settled, it is ready, backed, sound and fitting.
--- Cited by Kept; kt_core, kt_refinement.
+-- Cited by Kept; other crates.
 use Rattle.std.proofs.Common.{◌≡◌, ℕ, zero, suc, ◌+◌, ◌-◌, ◌*◌, ◌<◌, ◌≤◌, Bool, true, false, if◌then◌else◌, List, [], ◌∷◌, ◌++◌, length, map, Contains, take}
 use Rattle.std.proofs.Common.{Option, None, Some, inl, inr, refl, sym, ap, ◌∙◌, subst, arith}
 use Rattle.std.proofs.Common.{◌⊎◌, ◌==◌, ◌&&◌, length-append}

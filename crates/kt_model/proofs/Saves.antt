@@ -1,5 +1,5 @@
 -- A node of a ready state can act, and its checkpoint can be taken.
--- Cited by Fit; kt_core.
+-- Cited by Fit; other crates.
 use Rattle.std.proofs.Common.{◌≡◌, ℕ, get_or, zero, suc, ◌+◌, ◌≤◌, true, List, ◌++◌, length, Option, None, Some, refl, sym, ap, ◌∙◌, arith}
 use Rattle.std.specs.Prelude.{IfSome, IsTrue, is_some, unwrap_or}
 use Rattle.std.specs.List.{flat_map}

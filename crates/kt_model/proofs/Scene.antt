@@ -1,6 +1,6 @@
 -- The nodes of a scene: their numbers are small, and neighbours are a worker and a shard.
 -- Cited by CanApplies, Cutting, FitBodies, Gives, Good, GoodActs, GoodAsks, HeldActs, Leaves, NeverUnfit, Resuming,
---   Saves, StoredFronts; kt_core, kt_refinement, kt_resume, kt_run, kt_stage.
+--   Saves, StoredFronts; other crates.
 use Rattle.std.proofs.Common.{◌≡◌, ℕ, zero, suc, ◌<◌, ◌≤◌, Bool, true, false, ◌&&◌, ◌||◌, List, [], ◌∷◌, length, refl, arith, mod-lt}
 use Rattle.std.specs.Prelude.{is_some, slice_get, IsTrue}
 use Rattle.std.proofs.lemmas.Bool.{or_left, or_right}

@@ -1,7 +1,7 @@
 -- What a store counts for that holds tentative checkpoints from before the world was resumed: each of these is settled,
 -- made permanent where its check has Yes and given up else. A write of a step makes of what is settled what it makes of
 -- what is stored.
--- Cited by Kept, Lasting, NeverUnfit, Newer, Resuming, Settling; kt_refinement.
+-- Cited by Kept, Lasting, NeverUnfit, Newer, Resuming, Settling; other crates.
 use Rattle.std.proofs.Common.{◌≡◌, ℕ, ◌+◌, Bool, true, false, List, [], ◌∷◌, ◌++◌, map, filter, cond, Option, None, Some, inl, inr, refl, sym, ap, ◌∙◌, subst}
 use Rattle.std.proofs.Common.{if◌then◌else◌}
 use Rattle.std.specs.Prelude.{IfSome}

@@ -1,6 +1,6 @@
 -- A step of a world is one of the world in which what was found is settled, or a node that is down learns what became of
 -- the tentative checkpoint that was found of it, which changes nothing there.
--- Cited by Kept, Lasting; kt_refinement.
+-- Cited by Kept, Lasting; other crates.
 use Rattle.std.proofs.Common.{◌≡◌, ◌≢◌, ◌⊎◌, ℕ, Bool, true, false, List, [], ◌∷◌, length, Option, None, Some, Ok, inl, inr, refl, sym, ap, ◌∙◌}
 use Rattle.std.specs.Prelude.{IsTrue, is_some, unwrap_or}
 use Rattle.std.specs.Option.{option_map}

@@ -1,5 +1,5 @@
 -- The acts of a shard: it hears what is new, answers again what it keeps, ignores the rest, and serves what waits.
--- Cited by ActLeaves; kt_resume.
+-- Cited by ActLeaves; other crates.
 use Rattle.std.proofs.Common.{if◌then◌else◌, ◌≡◌, ◌≢◌, ℕ, ◌<◌, ◌==◌, Bool, true, false, List, [], ◌∷◌, ◌++◌}
 use Rattle.std.proofs.Common.{Contains, Option, Some, None, Ok, refl, sym, ap, ◌∙◌, subst, eq-eqb, eqb-true}
 use Rattle.std.proofs.lemmas.Bool.{and_parts, and_from}

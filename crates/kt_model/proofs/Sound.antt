@@ -2,7 +2,7 @@
 -- works with and what is stored of it are like what its log, or the front of it, makes of it.
 -- Cited by ActKeeps, ActLeaves, Applying, CheckLeaves, Cutting, FailLeaves, Fit, Following, Gives, Headlines,
 --   HeldActs, Holding, Kept, Lasting, LogsAfter, Noes, NoteSound, OpenedSound, PermanentPart, QuietLeaves, Resuming,
---   RollLeaves, Shaped, ShardPlans and 5 more; kt_refinement.
+--   RollLeaves, Shaped, ShardPlans and 5 more; other crates.
 use Rattle.std.proofs.Common.{◌≡◌, ℕ, ◌≤◌, List, length, Contains, Option, Some, None}
 use Rattle.std.specs.Prelude.{IfSome}
 use Rattle.std.specs.List.{AllByRecursion}

@@ -1,6 +1,6 @@
 -- What is planned in a ready state can be carried out and leaves the state ready, whatever the store says; and over a
 -- store that tells what it holds its write is allowed, and leaves the state backed.
--- Cited by kt_core.
+-- Cited by other crates.
 use Rattle.std.proofs.Common.{◌≡◌, Ok}
 use Rattle.std.specs.Prelude.{IfSome}
 use Rattle.kt_state.specs.declared.plan.Plan.{Plan}

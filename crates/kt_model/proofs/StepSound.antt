@@ -1,5 +1,5 @@
 -- Each plan of a step keeps a sound state sound: one leaf of the tables after the other.
--- Cited by Holding, Lasting; kt_refinement.
+-- Cited by Holding, Lasting; other crates.
 use Rattle.std.proofs.Common.{true, false, []}
 use Rattle.kt_state.specs.declared.plan.Plan.{Plan}
 use Rattle.kt_scenario.specs.declared.step.Step.{Step}

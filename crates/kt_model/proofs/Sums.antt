@@ -1,5 +1,5 @@
 -- Checkpoints each of which is short enough with those before it in node order are short enough together.
--- Cited by Fitting, NeverUnfit, Together; kt_core, kt_resume.
+-- Cited by Fitting, NeverUnfit, Together; other crates.
 use Rattle.std.proofs.Common.{◌≡◌, ◌⊎◌, ℕ, zero, suc, ◌+◌, ◌<◌, ◌≤◌, ◌^◌, Bool, true, false, List, [], ◌∷◌, ◌++◌, length, map, filter, cond, Contains, inl, inr}
 use Rattle.std.proofs.Common.{refl, sym, ap, ◌∙◌, subst, arith}
 use Rattle.std.specs.List.{AllByRecursion, range_with_len}

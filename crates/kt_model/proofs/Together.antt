@@ -1,5 +1,5 @@
 -- The logs of different nodes hold no more numbers together than there are notes.
--- Cited by NeverUnfit; kt_resume.
+-- Cited by NeverUnfit; other crates.
 use Rattle.std.proofs.Common.{◌≡◌, ◌≢◌, ◌⊎◌, ℕ, zero, suc, ◌+◌, ◌<◌, ◌≤◌, Bool, true, false, List, [], ◌∷◌, ◌++◌, take, length, map, filter, cond, Contains}
 use Rattle.std.proofs.Common.{Option, None, Some, inl, inr, refl, sym, ap, ◌∙◌, subst, arith, length-append}
 use Rattle.std.specs.Prelude.{is_some, slice_get, IsTrue, ◌||◌}

@@ -1,6 +1,6 @@
 -- What a write makes of what is stored: the owner's row, the rows of others, and the board.
 -- Cited by AllInstanceRows, Applying, Backs, Cutting, FailLeaves, Fit, HeldActs, Kept, RollLeaves, Settling, Updates;
---   kt_refinement.
+--   other crates.
 use Rattle.std.proofs.Common.{◌≡◌, ℕ, ◌+◌, ◌≤◌, Bool, Option, None, Some, refl, ap, ◌∙◌, subst, arith}
 use Rattle.std.specs.Prelude.{IfSome}
 use Rattle.std.specs.List.{find}

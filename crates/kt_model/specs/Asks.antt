@@ -1,7 +1,7 @@
 -- What the workers of a scene ask next.
 -- Cited by ActKeeps, ActLeaves, Fitting, Following, Headlines, Lasting, NeverUnfit, NoteSound, OpenedSound,
 --   PermanentPart, Renumbered, Shaped, ShardPlans, Sound, WorkerPlans, specs/Headline, specs/Like, specs/PermanentRun,
---   specs/Resumed, specs/Workers; kt_core, kt_refinement, kt_resume.
+--   specs/Resumed, specs/Workers; other crates.
 use Rattle.std.specs.Prelude.{ℕ, List, [], unwrap_or}
 use Rattle.kt_script.specs.declared.command.Command.{Command}
 use Rattle.kt_script.specs.Asks.{asks}

@@ -2,7 +2,7 @@
 -- a consistent set, with all that it follows from). And the cut of the permanent checkpoints.
 -- Cited by ActKeeps, Cuts, Cutting, FailLeaves, Fitting, Gives, HeldActs, Lasting, NeverUnfit, PermanentPart,
 --   QuietLeaves, Renumbered, ResumedServices, Resuming, RollLeaves, Settle, Settling, Sound, StoredFronts, Sums,
---   Updates, laws.rt, specs/Forced, specs/Headline and 3 more; kt_core, kt_refinement, kt_resume, kt_scene.
+--   Updates, laws.rt, specs/Forced, specs/Headline and 3 more; other crates.
 use Rattle.std.specs.Prelude.{ℕ, ◌==◌, Bool, false, List, [], take, Option, None, Some, Contains}
 use Rattle.std.specs.List.{flat_map, list_any, range_with_len}
 use Rattle.kt_tuple.specs.declared.node.NodeId.{NodeId}

@@ -3,7 +3,7 @@
 -- at most one write of the store.
 -- Cited by AllInstanceRows, AllPlaced, Applying, Backs, CanApplies, FirstCut, Fit, Fitting, Frames, Good, GoodAsks,
 --   Growing, HeldActs, Holding, Kept, Lasting, Leaves, LogActs, LogsAfter, Newer, NoteSound, OnLinks, OwnRows, Placed
---   and 12 more; kt_core, kt_refinement, kt_resume, kt_run, kt_scene, kt_stage.
+--   and 12 more; other crates.
 use Rattle.std.specs.Prelude.{ℕ, ◌+◌, List, [], ◌∷◌, ◌++◌, drop, Option, None, Some, Result, Ok, Err}
 use Rattle.std.specs.Option.{option_map}
 use Rattle.kt_tuple.specs.declared.node.NodeId.{NodeId}

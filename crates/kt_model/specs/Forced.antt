@@ -1,6 +1,6 @@
 -- Why a node that is up takes a checkpoint, or rolls back (Koo and Toueg, "Checkpointing and Rollback-Recovery for
 -- Distributed Systems": a checkpoint or a rollback makes no more processes take part than it must).
--- Cited by kt_core, kt_refinement.
+-- Cited by other crates.
 use Rattle.std.specs.Prelude.{◌≡◌, ℕ, List, take, Some, Contains}
 use Rattle.std.specs.Option.{option_map}
 use Rattle.kt_tuple.specs.declared.node.NodeId.{NodeId}

@@ -4,7 +4,7 @@
 -- `PermanentRun`, `StoresFollowLogs` in `Like`. Of kt_history are `services` and `Survives`, in `Survival`; of
 -- kt_tuple is `IsSpaceRun`, in `Space`. What a state is says `State`, and what a step makes of it `Effect`.
 -- The rest of the file is for other clauses of a step: what becomes of what a node remembers, and failures.
--- Cited by FirstCut, Headlines, Lasting, LogsAfter, laws.rt; kt_core, kt_refinement.
+-- Cited by FirstCut, Headlines, Lasting, LogsAfter, laws.rt; other crates.
 use Rattle.std.specs.Prelude.{◌≡◌, ℕ, ◌+◌, Bool, true, false, List, [], ◌∷◌, map}
 use Rattle.std.specs.Prelude.{◌++◌, take, length, ◌≤◌, Option, None, Some, IsTrue, IsPermutation}
 use Rattle.std.specs.List.{flat_map, list_all, range_with_len}

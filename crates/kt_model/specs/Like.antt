@@ -2,7 +2,7 @@
 -- them, the tuples in some order.
 -- Cited by ActKeeps, ActLeaves, CheckLeaves, Cutting, FailLeaves, FitBodies, Fitting, Following, Headlines, HeldActs,
 --   Lasting, OpenedSound, PermanentPart, Renumbered, Resuming, RollLeaves, Saved, ShardPlans, Sound, StoredFronts,
---   Updates, WorkerPlans, laws.rt, specs/Headline and 1 more; kt_core, kt_resume.
+--   Updates, WorkerPlans, laws.rt, specs/Headline and 1 more; other crates.
 use Rattle.std.specs.Prelude.{◌≡◌, ℕ, ◌≤◌, false, List, [], length, take, Option, None, Some, IfSome, IsPermutation}
 use Rattle.kt_tuple.specs.declared.node.NodeId.{NodeId}
 use Rattle.kt_tuple.specs.declared.node.NodeId.TheVariants as ids

@@ -1,5 +1,5 @@
 -- How large the tables of a world are.
--- Cited by Opened, Resuming, Scene, specs/Reached, specs/Resumed, specs/auxiliary/Ready; kt_core.
+-- Cited by Opened, Resuming, Scene, specs/Reached, specs/Resumed, specs/auxiliary/Ready; other crates.
 use Rattle.std.specs.Prelude.{ℕ, ◌*◌}
 use Rattle.kt_shard.specs.Limits.{sessions}
 

@@ -1,5 +1,5 @@
 -- What the permanent checkpoints hold.
--- Cited by Lasting, PermanentPart, laws.rt, specs/Headline; kt_refinement.
+-- Cited by Lasting, PermanentPart, laws.rt, specs/Headline; other crates.
 use Rattle.std.specs.Prelude.{List, IsPermutation}
 use Rattle.kt_tuple.specs.declared.tuple.Tuple.{Tuple}
 use Rattle.kt_tuple.specs.Space.{IsSpaceRun}

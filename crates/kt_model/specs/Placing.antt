@@ -1,5 +1,5 @@
 -- The history of a world that is resumed: the acts that the permanent checkpoints hold, each placed once its cause is.
--- Cited by AllPlaced, Fitting, NeverUnfit, Placed, PlacedActs, ResumedRows, specs/Resumed; kt_core, kt_resume.
+-- Cited by AllPlaced, Fitting, NeverUnfit, Placed, PlacedActs, ResumedRows, specs/Resumed; other crates.
 use Rattle.std.specs.Prelude.{ℕ, zero, suc, List, [], ◌∷◌, length, Option, None, Some, slice_get}
 use Rattle.std.specs.Option.{option_map}
 use Rattle.kt_tuple.specs.declared.node.NodeId.{NodeId}

@@ -1,7 +1,7 @@
 -- The states that a world can be in: those that steps lead to from the opening of a scene, or from what a store holds
 -- that fits the scene.
 -- Cited by AllInstanceRows, FirstCut, Fit, HeldActs, Holding, Kept, Lasting, NeverUnfit, Opened, OpenedSound,
---   OwnRows, ResumedRows, ResumedServices, Rows, laws.rt; kt_core, kt_refinement, kt_run, kt_stage.
+--   OwnRows, ResumedRows, ResumedServices, Rows, laws.rt; other crates.
 use Rattle.std.specs.Prelude.{◌≡◌, ℕ, zero, suc, ◌*◌, if◌then◌else◌, length, List, [], ◌∷◌, ◌++◌, replicate, Option}
 use Rattle.std.specs.Prelude.{None, Some, Result, Ok, Err}
 use Rattle.kt_tuple.specs.declared.node.NodeId.{NodeId}

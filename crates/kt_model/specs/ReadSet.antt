@@ -1,6 +1,6 @@
 -- What of the store the rule of a step looks at: only this is asked for, so that a step costs nothing that it can do
 -- without.
--- Cited by Enough, read_set.rt, specs/auxiliary/Reading; kt_core, kt_stage.
+-- Cited by Enough, read_set.rt, specs/auxiliary/Reading; other crates.
 use Rattle.std.specs.Prelude.{ℕ, ◌==◌, Bool, true, false, ◌&&◌, if◌then◌else◌, List, [], ◌∷◌, Option, None, Some}
 use Rattle.kt_tuple.specs.declared.node.NodeId.{NodeId}
 use Rattle.kt_vote.specs.declared.asker.Asker.{Asker}

@@ -1,6 +1,6 @@
 -- A world that goes on from what a store holds, and when what it holds fits a scene.
 -- Cited by AllInstanceRows, AllPlaced, Fitting, Kept, NeverUnfit, Placed, PlacedActs, Renumbered, ResumedRows,
---   ResumedServices, Resuming, Sums, Together, specs/Reached; kt_core, kt_refinement, kt_resume, kt_run.
+--   ResumedServices, Resuming, Sums, Together, specs/Reached; other crates.
 use Rattle.std.specs.Prelude.{◌≡◌, ℕ, zero, suc, ◌+◌, ◌-◌, ◌*◌, ◌<◌, ◌≤◌, ◌^◌, nat_lt, true, false, if◌then◌else◌}
 use Rattle.std.specs.Prelude.{List, [], ◌∷◌, ◌++◌, length, map, filter, replicate, Contains, AllPairs, Option, None}
 use Rattle.std.specs.Prelude.{Some, IfSome, IsTrue, is_some}

@@ -1,5 +1,5 @@
 -- Scripts whose workers a checkpoint can hold.
--- Cited by FitBodies, Holding, Kept, Loads, Opened, Resuming, specs/Reached, specs/auxiliary/Ready; kt_core, kt_run.
+-- Cited by FitBodies, Holding, Kept, Loads, Opened, Resuming, specs/Reached, specs/auxiliary/Ready; other crates.
 use Rattle.std.specs.Prelude.{ℕ, ◌≤◌, List, length, IfSome}
 use Rattle.kt_script.specs.declared.command.Command.{Command}
 use Rattle.kt_script.specs.Rules.{IsScript}

@@ -1,7 +1,7 @@
 -- The state of a world, as plain data.
 -- Cited by ActKeeps, ActLeaves, ActsFound, AllInstanceRows, Applying, ArrivalsFound, Backs, CanApplies, CheckLeaves,
 --   Cutting, DownUndamaged, Enough, FailLeaves, FirstCut, Fit, FitBodies, Fitting, Following, Frames, Gives, Good,
---   GoodActs, GoodAsks, Growing and 52 more; kt_core, kt_refinement, kt_resume, kt_run, kt_scene, kt_stage.
+--   GoodActs, GoodAsks, Growing and 52 more; other crates.
 use Rattle.std.specs.Prelude.{ℕ, ◌+◌, List, [], length, Option, None, unwrap_or}
 use Rattle.kt_tuple.specs.declared.node.NodeId.{NodeId}
 use Rattle.kt_tuple.specs.declared.node.NodeId.TheVariants as ids

@@ -1,7 +1,6 @@
 -- The plan of a step, or its refusal: of several refusals the first that stands is given.
 -- Cited by ActsFound, AllInstanceRows, ArrivalsFound, DownUndamaged, Enough, Holding, Kept, Lasting, OwnRows, Passed,
---   PlansFound, Settling, StepPlans, Undamaged, laws.rt, specs/Effect; kt_core, kt_refinement, kt_run, kt_scene,
---   kt_stage.
+--   PlansFound, Settling, StepPlans, Undamaged, laws.rt, specs/Effect; other crates.
 use Rattle.std.specs.Prelude.{◌≡◌, ℕ, nat_le, nat_lt, Bool, true, false, ◌&&◌, ◌||◌, if◌then◌else◌, List, [], ◌∷◌}
 use Rattle.std.specs.Prelude.{length, is_some, Result, Ok, Err}
 use Rattle.kt_tuple.specs.declared.node.NodeId.{NodeId}

@@ -1,7 +1,7 @@
 -- What the store says to the owner of a step, by what it holds.
 -- Cited by AllInstanceRows, Backs, CheckLeaves, DownUndamaged, Enough, FailLeaves, Fit, Gives, Holding, Kept,
 --   Lasting, Leaves, Newer, OwnRows, QuietLeaves, RollLeaves, Settling, StaysBacked, StepPlans, StepSound, Undamaged,
---   specs/StepPlan, specs/auxiliary/Reading; kt_core, kt_refinement, kt_run, kt_stage.
+--   specs/StepPlan, specs/auxiliary/Reading; other crates.
 use Rattle.std.specs.Prelude.{List, [], ◌∷◌, Option, None, Some}
 use Rattle.std.specs.Option.{option_map}
 use Rattle.kt_tuple.specs.declared.node.NodeId.{NodeId}

@@ -1,5 +1,5 @@
 -- Each worker stands as its log says.
--- Cited by Following, Lasting, laws.rt; kt_example.
+-- Cited by Following, Lasting, laws.rt; other crates.
 use Rattle.std.specs.Prelude.{◌≡◌, ℕ, Some}
 use Rattle.kt_tuple.specs.declared.node.NodeId.TheVariants as ids
 use Rattle.kt_history.specs.Closed.{acts_in_log}

@@ -1,6 +1,6 @@
 -- What the write of a plan makes of the store's content.
 -- Cited by AllInstanceRows, Applying, Backs, Cutting, FailLeaves, Fit, HeldActs, Kept, Newer, Noes, OwnRows,
---   RollLeaves, Settle, Settling, StaysBacked, Updates, Writes, specs/Effect; kt_core, kt_refinement.
+--   RollLeaves, Settle, Settling, StaysBacked, Updates, Writes, specs/Effect; other crates.
 use Rattle.std.specs.Prelude.{Option, None, Some}
 use Rattle.kt_tuple.specs.declared.node.NodeId.{NodeId}
 use Rattle.kt_store.specs.Content.{Content}

@@ -1,5 +1,5 @@
 //! Why a step of a world is refused.
-//! Cited by kt_command, kt_core, kt_memory_tests, kt_scene, kt_stage, linda_kt.
+//! Cited by other crates.
 
 ghost use Rattle.std.specs.Prelude.{◌≡◌};
 

@@ -6,7 +6,6 @@
 //!   too.
 //! - Stands on: kt_tuple, kt_script, kt_space, kt_link, kt_shard, kt_worker, kt_vote, kt_history, kt_scenario, kt_ckpt,
 //!   kt_store, kt_logs, kt_state, kt_node; of the kit: thiserror
-//! - Used by: kt_resume, kt_refinement, kt_core, kt_scene, kt_stage, kt_run, kt_command, kt_example
 //! - Begin in: `error.rt`, why a step is refused, then `specs/State.antt` and `specs/Effect.antt`.
 #![tactic(auto)]
 

@@ -1,5 +1,5 @@
 //! What of the store the rule of a step looks at.
-//! Cited by kt_core.
+//! Cited by other crates.
 
 use crate::store_reads::StoreReads;
 use kt_node::Stored;

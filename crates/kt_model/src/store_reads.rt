@@ -1,5 +1,5 @@
 //! What the store says to the owner of a step.
-//! Cited by read_set.rt; kt_core.
+//! Cited by read_set.rt; other crates.
 
 use kt_ckpt::CkptHeader;
 use kt_node::Stored;

@@ -1,5 +1,5 @@
 -- What a plan makes of its node can be carried out.
--- Cited by `laws::plans_can_be_carried_out`; kt_model.
+-- Cited by `laws::plans_can_be_carried_out`; other crates.
 use Rattle.std.proofs.Common.{◌≡◌, ℕ, ◌<◌, ◌≤◌, Bool, true, false, if◌then◌else◌, List, [], ◌∷◌, Option, None, Some}
 use Rattle.std.proofs.Common.{Result, Ok, Err, subst, refl, slice_get, arith}
 use Rattle.std.proofs.Math.Nat.{mod-lt}

@@ -1,5 +1,5 @@
 -- The table of arrivals, its part of the underlying messages.
--- Cited by Acting, app_messages.rt, laws.rt, short_plan.rt; kt_core, kt_model, kt_refinement.
+-- Cited by Acting, app_messages.rt, laws.rt, short_plan.rt; other crates.
 use Rattle.std.specs.Prelude.{[], Option, None, Some, Ok}
 use Rattle.kt_tuple.specs.declared.node.NodeId.{NodeId}
 use Rattle.kt_state.specs.declared.message.AppMessage.{AppMessage}

@@ -1,6 +1,6 @@
 -- The table of arrivals: what a control message makes of the node that it comes to. The rules of each message are
 -- tried from the top; a node that is down drops everything.
--- Cited by arrivals.rt, reaction.rt; kt_model, kt_refinement, kt_stage.
+-- Cited by arrivals.rt, reaction.rt; other crates.
 use Rattle.std.specs.Prelude.{ℕ, ◌==◌, Bool, true, false, ◌&&◌, if◌then◌else◌, Option, None, Some, Ok, Err}
 use Rattle.kt_tuple.specs.declared.node.NodeId.{NodeId}
 use Rattle.kt_ckpt.specs.declared.header.CkptHeader.{CkptHeader}

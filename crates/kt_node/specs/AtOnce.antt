@@ -1,5 +1,5 @@
 -- What is said at once, with no plan made of it: the plan that it comes to.
--- Cited by at_once.rt; kt_core.
+-- Cited by at_once.rt; other crates.
 use Rattle.std.specs.Prelude.{ℕ, [], ◌∷◌, None, Some}
 use Rattle.kt_tuple.specs.declared.node.NodeId.{NodeId}
 use Rattle.kt_tuple.specs.declared.op.Op.{Op}

@@ -1,6 +1,6 @@
 -- The table of steps, those of checks and rollbacks: what a node may do of itself, and why it may not. Of several
 -- refusals the lowest is given.
--- Cited by deciding.rt; kt_core, kt_model, kt_refinement, kt_stage.
+-- Cited by deciding.rt; other crates.
 use Rattle.std.specs.Prelude.{ℕ, Bool, true, false, ◌&&◌, if◌then◌else◌, List, [], Option, None, Some, Ok, Err}
 use Rattle.kt_tuple.specs.declared.node.NodeId.{NodeId}
 use Rattle.kt_ckpt.specs.declared.header.CkptHeader.{CkptHeader}

@@ -1,5 +1,5 @@
 -- The table of steps, those of failures: how a node fails, and comes back.
--- Cited by failing.rt; kt_core, kt_model, kt_refinement, kt_stage.
+-- Cited by failing.rt; other crates.
 use Rattle.std.specs.Prelude.{ℕ, ◌+◌, Bool, ◌&&◌, if◌then◌else◌, [], Option, None, Some, Result, Ok, Err}
 use Rattle.std.specs.Option.{is_some}
 use Rattle.kt_ckpt.specs.declared.header.CkptHeader.{CkptHeader}

@@ -1,5 +1,5 @@
 -- How a node begins to vote in an instance: whom it asks, what is stored of it, and when it has voted at once.
--- Cited by joining.rt, specs/Arrivals, specs/Deciding, specs/Saving, `joining::cohort`; kt_model, kt_refinement.
+-- Cited by joining.rt, specs/Arrivals, specs/Deciding, specs/Saving, `joining::cohort`; other crates.
 use Rattle.std.specs.Prelude.{ℕ, Bool, not, List, ◌++◌, filter, Option, None, Some}
 use Rattle.kt_tuple.specs.declared.node.NodeId.{NodeId}
 use Rattle.kt_ckpt.specs.declared.ckpt.Ckpt.{Ckpt}

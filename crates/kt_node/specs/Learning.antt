@@ -1,6 +1,5 @@
 -- What a verdict makes of a node, whether it learns it from the board or is told.
--- Cited by learning.rt, specs/Arrivals, specs/Deciding, specs/Failing, `learning::verdict_to`; kt_model,
---   kt_refinement, kt_stage.
+-- Cited by learning.rt, specs/Arrivals, specs/Deciding, specs/Failing, `learning::verdict_to`; other crates.
 use Rattle.std.specs.Prelude.{ℕ, Bool, true, if◌then◌else◌, List, [], map}
 use Rattle.std.specs.Prelude.{Option, None, Some, Result, Ok, Err}
 use Rattle.kt_tuple.specs.declared.node.NodeId.{NodeId}

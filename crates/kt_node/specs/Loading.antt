@@ -1,5 +1,5 @@
 -- When a node goes on from its permanent checkpoint.
--- Cited by learning.rt, specs/Failing, specs/Learning, view.rt; kt_model, kt_refinement, kt_stage.
+-- Cited by learning.rt, specs/Failing, specs/Learning, view.rt; other crates.
 use Rattle.std.specs.Prelude.{◌+◌, if◌then◌else◌, Result, Err}
 use Rattle.kt_state.specs.declared.stored.Stored.{Stored}
 use Rattle.kt_state.specs.declared.refusal.Refusal.{Refusal}

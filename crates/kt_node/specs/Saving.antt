@@ -1,5 +1,5 @@
 -- When a checkpoint of a node can be taken: its counts are those of the format.
--- Cited by arrivals.rt, deciding.rt, joining.rt; kt_core, kt_model.
+-- Cited by arrivals.rt, deciding.rt, joining.rt; other crates.
 use Rattle.kt_ckpt.specs.Checkpoint.{HasCounts}
 use Rattle.kt_state.specs.Node.{Live, Node, Down, Alive}
 use Rattle.kt_node.specs.View.{View}

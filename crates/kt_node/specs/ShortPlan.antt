@@ -1,5 +1,5 @@
 -- The short plan of a frequent step, as the plan that it stands for.
--- Cited by short_plan.rt; kt_core.
+-- Cited by short_plan.rt; other crates.
 use Rattle.std.specs.Prelude.{None, option_to_list}
 use Rattle.kt_state.specs.declared.change.Change.TheVariants as changes
 use Rattle.kt_state.specs.ShortUpdate.{update_of}

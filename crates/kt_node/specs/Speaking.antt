@@ -1,5 +1,5 @@
 -- When a node can speak.
--- Cited by Acting, app_messages.rt, at_once.rt, laws.rt, short_plan.rt, steps.rt; kt_core, kt_model.
+-- Cited by Acting, app_messages.rt, at_once.rt, laws.rt, short_plan.rt, steps.rt; other crates.
 use Rattle.std.specs.Prelude.{◌<◌, ◌≤◌, IfSome, All}
 use Rattle.kt_tuple.specs.declared.node.NodeId.{NodeId}
 use Rattle.kt_state.specs.declared.message.AppMessage.{AppMessage}

@@ -1,6 +1,6 @@
 -- The table of steps, its part of the underlying computation: what a node may do of itself, and why it may not. Of
 -- several refusals the lowest is given.
--- Cited by Acting, at_once.rt, laws.rt, short_plan.rt, specs/Speaking, steps.rt; kt_core, kt_model, kt_run, kt_stage.
+-- Cited by Acting, at_once.rt, laws.rt, short_plan.rt, specs/Speaking, steps.rt; other crates.
 use Rattle.std.specs.Prelude.{ℕ, Option, None, Some, Result, Ok, Err}
 use Rattle.kt_tuple.specs.declared.node.NodeId.{NodeId}
 use Rattle.kt_tuple.specs.declared.op.Op.{Op}

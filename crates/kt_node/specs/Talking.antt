@@ -1,6 +1,5 @@
 -- What workers and shards say to each other: the acts of the underlying computation.
--- Cited by Acting, hearing.rt, short_plan.rt, specs/AppMessages, specs/Steps, steps.rt, talking.rt; kt_model,
---   kt_refinement, kt_stage.
+-- Cited by Acting, hearing.rt, short_plan.rt, specs/AppMessages, specs/Steps, steps.rt, talking.rt; other crates.
 use Rattle.std.specs.Prelude.{ℕ, if◌then◌else◌, [], ◌∷◌, Option, None, Some}
 use Rattle.kt_tuple.specs.declared.node.NodeId.{NodeId}
 use Rattle.kt_tuple.specs.declared.node.NodeId.TheVariants as ids

@@ -2,7 +2,7 @@
 -- Cited by Acting, app_messages.rt, arrivals.rt, at_once.rt, deciding.rt, failing.rt, hearing.rt, joining.rt,
 --   laws.rt, learning.rt, short_plan.rt, specs/AppMessages, specs/Arrivals, specs/Deciding, specs/Failing,
 --   specs/Joining, specs/Learning, specs/Loading, specs/Saving, specs/Speaking, specs/Steps, specs/Talking, steps.rt,
---   talking.rt and 1 more; kt_core, kt_model, kt_refinement, kt_stage.
+--   talking.rt and 1 more; other crates.
 use Rattle.std.specs.Prelude.{ℕ, ◌+◌, List, length}
 use Rattle.kt_history.specs.Log.{log}
 use Rattle.kt_ckpt.specs.declared.acts.LogAct.{LogAct}

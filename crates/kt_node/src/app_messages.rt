@@ -1,5 +1,5 @@
 //! What an underlying message makes of the node that it comes to.
-//! Cited by kt_core.
+//! Cited by other crates.
 
 ghost use Rattle.std.specs.Prelude.{◌≡◌, IfOk};
 ghost use Rattle.kt_node.specs.View.{view_of};

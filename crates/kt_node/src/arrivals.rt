@@ -1,5 +1,5 @@
 //! What a control message makes of the node that it comes to.
-//! Cited by kt_core.
+//! Cited by other crates.
 
 ghost use Rattle.std.specs.Prelude.{◌≡◌, ◌+◌, ◌<◌, ◌^◌, IfOk, Ok};
 ghost use Rattle.std.specs.Option.{option_copied};

@@ -1,6 +1,6 @@
 //! A worker asks once more, without a plan of all that a step can be: what is looked at, what is said, and what becomes
 //! of the node.
-//! Cited by kt_core.
+//! Cited by other crates.
 
 ghost use Rattle.std.specs.Prelude.{◌≡◌, ◌≤◌, IfOk, IfSome, Ok, Some};
 ghost use Rattle.kt_state.specs.declared.change.Change.TheVariants.{Update as Goes};

@@ -1,5 +1,5 @@
 //! The steps of checks and rollbacks that a node makes of itself.
-//! Cited by kt_core.
+//! Cited by other crates.
 
 ghost use Rattle.std.specs.Prelude.{◌≡◌, ◌+◌, ◌<◌, ◌^◌, IfOk, None, Some, false};
 ghost use Rattle.std.specs.Option.{option_copied};

@@ -1,5 +1,5 @@
 //! How a node fails, and comes back.
-//! Cited by kt_core.
+//! Cited by other crates.
 
 ghost use Rattle.std.specs.Prelude.{◌≡◌, ◌+◌, ◌<◌, ◌^◌, ℕ, IfOk, MatchResult, None, Some};
 ghost use Rattle.std.specs.Option.{option_copied};

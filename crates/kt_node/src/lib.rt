@@ -6,7 +6,6 @@
 //!   change out.
 //! - Stands on: kt_tuple, kt_script, kt_space, kt_link, kt_shard, kt_worker, kt_vote, kt_history, kt_ckpt, kt_store,
 //!   kt_state
-//! - Used by: kt_model, kt_resume, kt_refinement, kt_core, kt_stage, kt_run
 //! - Begin in: `steps.rt` for steps and `arrivals.rt` for messages. What a plan is, kt_state says.
 #![tactic(auto)]
 

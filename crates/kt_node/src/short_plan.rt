@@ -1,6 +1,6 @@
 //! The plans of the frequent steps of workers and shards. A `Plan` stands on the heap in part, and goes through many
 //! hands; a short one takes no memory for itself and goes through few (docs/DECISIONS.md#steps).
-//! Cited by kt_core.
+//! Cited by other crates.
 
 ghost use Rattle.std.specs.Prelude.{◌≡◌, ◌≤◌, IfOk, IfSome, IsOk, OnErr, Ok};
 ghost use Rattle.kt_worker.specs.WorkerModel.{next_request};

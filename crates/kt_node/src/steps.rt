@@ -1,5 +1,5 @@
 //! The steps of the underlying computation.
-//! Cited by at_once.rt, short_plan.rt; kt_core.
+//! Cited by at_once.rt, short_plan.rt; other crates.
 
 ghost use Rattle.std.specs.Prelude.{◌≡◌, ◌≤◌, IfOk, is_some};
 ghost use Rattle.std.specs.Option.{option_copied, option_map};

@@ -1,6 +1,6 @@
 //! What the owner of a step sees.
 //! Cited by app_messages.rt, arrivals.rt, at_once.rt, deciding.rt, failing.rt, hearing.rt, joining.rt, learning.rt,
-//!   short_plan.rt, steps.rt, talking.rt; kt_core.
+//!   short_plan.rt, steps.rt, talking.rt; other crates.
 
 ghost use Rattle.std.specs.Prelude.{◌≡◌, ◌+◌, ◌<◌, ◌^◌, All, IfErr, IfOk, IfSome, true};
 

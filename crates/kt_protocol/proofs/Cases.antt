@@ -1,6 +1,6 @@
 -- Constructors told apart, links changed, and the whole from what a step changes.
 -- Cited by Answers, Casts, Checks, Consequences, Cuts, Examples, Joins, Keeps, Main, Rises, Rows, Starts, Talks,
---   Trees, Verdicts, Votes; kt_refinement.
+--   Trees, Verdicts, Votes; other crates.
 use Rattle.std.proofs.Common.{◌≡◌, ◌≢◌, ◌⊎◌, ℕ, Bool, true, false, IsTrue, List, ◌++◌, Option, Some, None, inl, inr, refl, sym, ap, subst, ◌∙◌}
 use Rattle.std.proofs.lemmas.Bool.{cases_eq, eq-eqb, ne_eqb}
 use Rattle.kt_protocol.specs.Labels.{at}

@@ -1,6 +1,6 @@
 -- The theorem from the invariant.
 -- Cited by `laws::held_is_forced`, `laws::nothing_remembered_is_undone`, `laws::permanent_checkpoints_agree`,
---   `laws::rolling_is_forced`; kt_refinement.
+--   `laws::rolling_is_forced`; other crates.
 use Rattle.std.proofs.Common.{◌≡◌, ◌≢◌, ◌⊎◌, ℕ, Bool, true, false, IsTrue, List, ◌∷◌, Some, inl, inr, sym, subst, ◌∙◌}
 use Rattle.std.proofs.lemmas.Bool.{cases_eq}
 use Rattle.kt_protocol.specs.Labels.{Label, Under, UpTo, at}

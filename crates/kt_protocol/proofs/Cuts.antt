@@ -1,5 +1,5 @@
 -- Failures, and logs cut to the permanent checkpoint.
--- Cited by Checks, Consequences, Main, Rises; kt_refinement.
+-- Cited by Checks, Consequences, Main, Rises; other crates.
 use Rattle.std.proofs.Common.{◌≡◌, ℕ, Bool, List, [], Option, Some, None, inl, inr, refl, sym, ap, ◌∙◌}
 use Rattle.kt_protocol.specs.Labels.{Label, Under}
 use Rattle.kt_protocol.specs.Logs.{IsTail, all, top_sent}

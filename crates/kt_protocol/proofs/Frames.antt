@@ -1,5 +1,5 @@
 -- What a step leaves as it was, once for all steps.
--- Cited by Cases, Casts, Checks, Main, Rises, Starts, Talks, Verdicts; kt_refinement.
+-- Cited by Cases, Casts, Checks, Main, Rises, Starts, Talks, Verdicts; other crates.
 use Rattle.std.proofs.Common.{◌≡◌, ◌≢◌, ℕ, Bool, true, false, IsTrue, List, Option, refl, sym, ap, subst, ◌∙◌}
 use Rattle.kt_protocol.specs.Labels.{Label, at}
 use Rattle.kt_protocol.specs.Logs.{Act}

@@ -1,6 +1,6 @@
 -- What a node has of the acts before it was resumed stands at the ground of its log and of its permanent checkpoint, and
 -- of no other's.
--- Cited by kt_refinement.
+-- Cited by other crates.
 use Rattle.std.proofs.Common.{◌≡◌, ◌≢◌, ◌⊎◌, ℕ, Bool, List, [], ◌∷◌, Option, Some, None, inl, inr, sym, ap, subst, if◌then◌else◌, eqb}
 use Rattle.kt_protocol.specs.Labels.{Label, at}
 use Rattle.kt_protocol.specs.Logs.{IsIn, here, there, Act, Sends, Hears, Resumes, IsTalk}

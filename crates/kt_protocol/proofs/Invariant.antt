@@ -1,7 +1,7 @@
 -- What holds in every state that the machine reaches: of one node, of an ordered pair of neighbours, of the trees
 -- of those who joined an instance.
 -- Cited by Answers, Cases, Casts, Checks, Consequences, Cuts, Frames, Grounds, Joins, Keeps, Main, Rises, Starts,
---   Talks, Trees, Verdicts, Votes; kt_refinement.
+--   Talks, Trees, Verdicts, Votes; other crates.
 use Rattle.std.proofs.Common.{◌≡◌, ◌≢◌, ◌⊎◌, ◌≤◌, ℕ, Bool, true, false, IsTrue, List, [], ◌++◌, Option, Some, None}
 use Rattle.kt_protocol.specs.Labels.{Label, Under, UpTo}
 use Rattle.kt_protocol.specs.Logs.{IsIn, Act, Sends, Hears, top_sent, top_heard, IsTail}

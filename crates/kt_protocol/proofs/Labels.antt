@@ -1,6 +1,6 @@
 -- The order of labels, and functions changed at a place.
 -- Cited by Answers, Casts, Checks, Consequences, Cuts, Examples, Frames, Grounds, Joins, Keeps, Logs, Main, Rises,
---   Rows, Starts, Streams, Talks, Trees, Votes; kt_refinement.
+--   Rows, Starts, Streams, Talks, Trees, Votes; other crates.
 use Rattle.std.proofs.Common.{◌≡◌, ◌≢◌, ◌⊎◌, ℕ, ◌<◌, ◌≤◌, inl, inr, refl, sym, subst, arith}
 use Rattle.std.proofs.lemmas.Bool.{cases_lt, cases_eq, cases_order, eq-eqb, ne_eqb}
 use Rattle.kt_protocol.specs.Labels.{Label, no_label, Under, UpTo, at}

@@ -1,5 +1,5 @@
 -- Stacks of acts: labels fall along a log, and what a tail of it holds.
--- Cited by Casts, Checks, Consequences, Cuts, Grounds, Invariant, Keeps, Main, Rises, Starts, Talks; kt_refinement.
+-- Cited by Casts, Checks, Consequences, Cuts, Grounds, Invariant, Keeps, Main, Rises, Starts, Talks; other crates.
 use Rattle.std.proofs.Common.{◌≡◌, ◌≢◌, ◌⊎◌, ℕ, inl, inr, refl, subst, List, [], ◌∷◌}
 use Rattle.std.proofs.lemmas.Bool.{cases_eq, eq-eqb, ne_eqb}
 use Rattle.kt_protocol.specs.Labels.{Label, Under, UpTo}

@@ -1,6 +1,6 @@
 -- The invariant holds in every state that is reached, and what follows from it.
 -- Cited by Grounds, `laws::held_is_forced`, `laws::nothing_remembered_is_undone`,
---   `laws::permanent_checkpoints_agree`, `laws::rolling_is_forced`; kt_refinement.
+--   `laws::permanent_checkpoints_agree`, `laws::rolling_is_forced`; other crates.
 use Rattle.std.proofs.Common.{◌≡◌, ◌⊎◌, ℕ, Bool, true, List, [], ◌∷◌, ◌++◌, Option, Some, None, inl, inr, sym, ap, subst, ◌∙◌, arith}
 use Rattle.kt_protocol.specs.Labels.{Label, Under, UpTo}
 use Rattle.kt_protocol.specs.Logs.{IsIn, here, there, Hears, Resumes, IsTail, all, top_sent, top_heard}

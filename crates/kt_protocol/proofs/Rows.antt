@@ -1,5 +1,5 @@
 -- The rows of the two asks are steps.
--- Cited by `laws::the_row_of_a_check_ask_is_a_step`, `laws::the_row_of_a_rollback_ask_is_a_step`; kt_refinement.
+-- Cited by `laws::the_row_of_a_check_ask_is_a_step`, `laws::the_row_of_a_rollback_ask_is_a_step`; other crates.
 use Rattle.std.proofs.Common.{◌≡◌, ◌⊎◌, ℕ, Bool, true, false, not, ◌&&◌, IsTrue, ◌∷◌, Option, Some, None, inl, inr, refl, ap, ◌∙◌, eqb, ltb, leb, ◌<◌, ◌≤◌}
 use Rattle.std.proofs.Common.{if◌then◌else◌, arith}
 use Rattle.std.proofs.lemmas.Bool.{cases_lt, and_parts, and_from, or_left, or_right, eqb-true, eq-eqb, lt-ltb, le-leb}

@@ -1,6 +1,6 @@
 -- Messages in order: their labels rise, and an ask flushes the link.
 -- Cited by Answers, Casts, Checks, Cuts, Frames, Grounds, Invariant, Joins, Keeps, Main, Rises, Rows, Starts, Talks,
---   Trees, Votes; kt_refinement.
+--   Trees, Votes; other crates.
 use Rattle.std.proofs.Common.{◌≡◌, ◌≢◌, ◌⊎◌, ℕ, Bool, true, false, if◌then◌else◌, inl, inr, refl, sym, ap, subst, arith, List, [], ◌∷◌, ◌++◌, ◌&&◌, ltb, leb}
 use Rattle.std.proofs.Common.{eqb}
 use Rattle.std.proofs.lemmas.Bool.{ltb-true, leb-true, eqb-true, or_cases, and_parts}

@@ -1,7 +1,7 @@
 -- Labels of messages: the incarnation of the sender and the count of its messages in it.
 -- Cited by Answers, Cases, Casts, Checks, Consequences, Cuts, Examples, Frames, Grounds, Invariant, Joins, Keeps,
---   Labels, Logs, Main, Rises, Rows, Starts, Streams, Talks, Trees, Votes, laws.rt, specs/Laws and 5 more;
---   kt_refinement.
+--   Labels, Logs, Main, Rises, Rows, Starts, Streams, Talks, Trees, Votes, laws.rt, specs/Laws and 5 more; other
+--   crates.
 use Rattle.std.specs.Prelude.{◌≡◌, ℕ, ◌≤◌, ◌<◌, Bool, eqb, ltb, leb, ◌&&◌, ◌||◌, if◌then◌else◌}
 
 -- a label

@@ -1,5 +1,5 @@
 -- What the theorem says of the states that are reached. Nothing here names a ballot or a vote.
--- Cited by Consequences, Examples, Main, laws.rt; kt_refinement.
+-- Cited by Consequences, Examples, Main, laws.rt; other crates.
 use Rattle.std.specs.Prelude.{◌≡◌, ℕ, Bool, true, false, List, [], ◌∷◌, ⊤}
 use Rattle.kt_protocol.specs.Labels.{Label}
 use Rattle.kt_protocol.specs.Logs.{IsIn, Act, Sends, Hears}

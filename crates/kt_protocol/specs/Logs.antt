@@ -1,7 +1,7 @@
 -- What a node remembers: its acts, newest first.
 -- Cited by Answers, Casts, Checks, Consequences, Cuts, Examples, Frames, Grounds, Invariant, Joins, Keeps, Logs,
 --   Main, Rises, Rows, Starts, Streams, Talks, Trees, Votes, laws.rt, specs/Laws, specs/Machine, specs/Rows and 2 more;
---   kt_refinement.
+--   other crates.
 use Rattle.std.specs.Prelude.{ℕ, eqb, if◌then◌else◌, List, [], ◌∷◌}
 use Rattle.kt_protocol.specs.Labels.{Label, no_label}
 

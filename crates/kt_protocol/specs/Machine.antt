@@ -1,7 +1,7 @@
 -- The state of the machine: n nodes, the links between them, and the board of verdicts.
 -- Cited by Answers, Cases, Casts, Checks, Consequences, Cuts, Examples, Frames, Grounds, Invariant, Joins, Keeps,
 --   Main, Rises, Rows, Starts, Streams, Talks, Trees, Verdicts, Votes, laws.rt, specs/Laws, specs/Rows and 2 more;
---   kt_refinement.
+--   other crates.
 use Rattle.std.specs.Prelude.{ℕ, suc, eqb, Bool, false, if◌then◌else◌, List, Option, Some, None}
 use Rattle.kt_protocol.specs.Labels.{Label}
 use Rattle.kt_protocol.specs.Logs.{Act}

@@ -1,6 +1,6 @@
 -- Runs of the machine from a beginning.
 -- Cited by Answers, Cases, Casts, Checks, Consequences, Cuts, Examples, Frames, Grounds, Keeps, Main, Rises, Starts,
---   Talks, Votes, specs/Laws; kt_refinement.
+--   Talks, Votes, specs/Laws; other crates.
 use Rattle.std.specs.Prelude.{◌≡◌, ◌≢◌, ℕ, Bool, false, IsTrue, [], ◌∷◌, None}
 use Rattle.kt_protocol.specs.Labels.{Label, Under, UpTo}
 use Rattle.kt_protocol.specs.Logs.{Resumes, top_sent, top_heard}

@@ -2,7 +2,7 @@
 -- tables of steps and arrivals allow, and more. A vote or a verdict has no message of its own that must be taken off a
 -- link. A message may be kept or dropped, a no said, an open instance given up at any time.
 -- Cited by Answers, Cases, Casts, Checks, Consequences, Cuts, Examples, Grounds, Invariant, Joins, Keeps, Main,
---   Rises, Rows, Starts, Streams, Talks, Verdicts, Votes, laws.rt, specs/Rows, specs/Runs; kt_refinement.
+--   Rises, Rows, Starts, Streams, Talks, Verdicts, Votes, laws.rt, specs/Rows, specs/Runs; other crates.
 use Rattle.std.specs.Prelude.{◌≡◌, ◌⊎◌, ℕ, suc, eqb, Bool, true, false, not, ◌||◌, if◌then◌else◌, IsTrue, List, [], ◌∷◌}
 use Rattle.std.specs.Prelude.{◌++◌, Option, Some, None, ⊤}
 use Rattle.kt_protocol.specs.Labels.{Label, Under, UpTo, up_to, at}

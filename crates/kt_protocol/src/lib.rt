@@ -5,7 +5,6 @@
 //!   `permanent_checkpoints_agree`). Three more laws stand beside it: `nothing_remembered_is_undone`,
 //!   `rolling_is_forced` and `held_is_forced`.
 //! - Stands on: none
-//! - Used by: kt_refinement, kt_core
 //! - Begin in: `laws.rt`, the theorem, then `specs/Machine.antt` and `specs/Steps.antt`, the machine that it is about.
 #![tactic(auto)]
 

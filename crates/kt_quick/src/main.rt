@@ -4,7 +4,6 @@
 //! - Contract: `run_arguments`, clause `told`: words that name a command do it over a fresh store in memory, by the
 //!   same call as `linda_kt`. Any other words end with status 2, and nothing is read or written.
 //! - Stands on: kt_scene, kt_run, kt_command
-//! - Used by: none
 //! - Begin in: `program.rt`.
 #![tactic(auto)]
 
@@ -12,6 +11,7 @@ mod program;
 
 use kt_scene::{Sink, Source};
 use std::env;
+use std::io::IsTerminal;
 use std::process::ExitCode;
 
 fn main(rt: HostRuntime) -> ExitCode {
@@ -19,6 +19,7 @@ fn main(rt: HostRuntime) -> ExitCode {
     let mut reader = Source::new(rt.stdin());
     let mut writer = Sink::new(rt.stdout());
     let mut errors = rt.stderr();
+    let is_watched = errors.is_terminal();
     let status = program::run_arguments(
         &rt,
         rt.alloc(),
@@ -26,6 +27,7 @@ fn main(rt: HostRuntime) -> ExitCode {
         &mut reader,
         &mut writer,
         &mut errors,
+        is_watched,
     );
     ExitCode::from(status)
 }

@@ -3,9 +3,13 @@
 ghost use Rattle.std.specs.Prelude.{◌≡◌, ◌⊎◌, IfOk, IsErr};
 ghost use Rattle.std.specs.Vec.Iter.{into_iter_items};
 ghost use Rattle.kt_command.specs.Command.{texts, words_behind};
-ghost use Rattle.kt_quick.specs.Words.{IsQuickStatus, command_asked, command_of_one};
+ghost use Rattle.kt_quick.specs.Words.{IsQuickStatus, command_asked, command_of_one, command_of_three};
+ghost use Rattle.kt_quick.specs.Words.{command_of_two};
 
-use kt_command::{COMMAND_LINE, Command, DONE, MEMORY, run_in_memory, texts_of, words_behind};
+use kt_command::{
+    COMMAND_LINE, Command, DONE, Explained, Explainer, MEMORY, run_in_memory, texts_of,
+    words_behind,
+};
 use kt_run::Output;
 use kt_scene::{Sink, Source, Start};
 use std::alloc::{AllocError, Global};
@@ -24,6 +28,7 @@ pub fn run_arguments<T: Threads + Wait + Sync, R: Read, W: Write, E: Write>(
     reader: &mut Source<R>,
     writer: &mut Sink<W>,
     errors: &mut E,
+    is_watched: bool,
 ) -> u8
     ensures told { IfOk arguments (λ a. IsQuickStatus (words_behind (into_iter_items a))
         reader.old reader.new writer.old writer.new result) }
@@ -34,7 +39,7 @@ pub fn run_arguments<T: Threads + Wait + Sync, R: Read, W: Write, E: Write>(
 {
     match arguments {
         Ok(arguments) => match texts_of(alloc, arguments) {
-            Ok(texts) => run_texts(threads, alloc, &texts, reader, writer, errors),
+            Ok(texts) => run_texts(threads, alloc, &texts, reader, writer, errors, is_watched),
             Err(AllocError) => end_by("memory", MEMORY, errors),
         },
         Err(_) => refuse_words(errors),
@@ -49,12 +54,13 @@ fn run_texts<T: Threads + Wait + Sync, R: Read, W: Write, E: Write>(
     reader: &mut Source<R>,
     writer: &mut Sink<W>,
     errors: &mut E,
+    is_watched: bool,
 ) -> u8
     ensures told { IsQuickStatus (words_behind arguments.now) reader.old reader.new writer.old writer.new result }
     ensures done_without_a_word { result ≡ DONE → errors.new ≡ errors.old }
 {
     match words_behind(alloc, arguments) {
-        Ok(words) => run_words(threads, alloc, &words, reader, writer, errors),
+        Ok(words) => run_words(threads, alloc, &words, reader, writer, errors, is_watched),
         Err(AllocError) => end_by("memory", MEMORY, errors),
     }
 }
@@ -67,26 +73,75 @@ fn run_words<T: Threads + Wait + Sync, R: Read, W: Write, E: Write>(
     reader: &mut Source<R>,
     writer: &mut Sink<W>,
     errors: &mut E,
+    is_watched: bool,
 ) -> u8
     ensures told { IsQuickStatus (texts words.now) reader.old reader.new writer.old writer.new result }
     ensures done_without_a_word { result ≡ DONE → errors.new ≡ errors.old }
 {
     match command_asked(words) {
-        Some(command) => run_in_memory(threads, alloc, command, reader, writer, errors),
+        Some(command) => {
+            let mut explainer = Explainer::new(alloc, explained(words, is_watched));
+            let status = run_in_memory(
+                threads,
+                alloc,
+                command,
+                reader,
+                writer,
+                errors,
+                &mut explainer,
+            );
+            explainer.tell(status, errors);
+            status
+        }
         None => refuse_words(errors),
     }
 }
 
-/// The command that the words name: `replay`, `run` or `run --journal`. None of any others.
+/// The command that the words name: `replay`, `run` or `run --journal`, each with `--explain` or without. None of any
+/// others.
 fn command_asked(words: &[&str]) -> Option<Command>
     ensures { result ≡ command_asked (texts words.now) }
 {
     match words {
         [name] => command_of_one(name),
-        [name, flag] if *name == "run" && *flag == "--journal" => {
-            Some(Command::Run(Start::Open, Output::Journal))
-        }
+        [name, flag] => command_of_two(name, flag),
+        [name, first, second] => command_of_three(name, first, second),
         _ => None,
+    }
+}
+
+/// The command that two words name.
+fn command_of_two(name: &str, flag: &str) -> Option<Command>
+    ensures { result ≡ command_of_two name.now flag.now }
+{
+    if flag == "--explain" {
+        command_of_one(name)
+    } else if name == "run" && flag == "--journal" {
+        Some(Command::Run(Start::Open, Output::Journal))
+    } else {
+        None
+    }
+}
+
+/// A run with both flags.
+fn command_of_three(name: &str, first: &str, second: &str) -> Option<Command>
+    ensures { result ≡ command_of_three name.now first.now second.now }
+{
+    let has_both = first == "--journal" && second == "--explain"
+        || first == "--explain" && second == "--journal";
+    if name == "run" && has_both {
+        Some(Command::Run(Start::Open, Output::Journal))
+    } else {
+        None
+    }
+}
+
+/// How much is explained: a fault is where the words ask for that, or where a person watches.
+fn explained(words: &[&str], is_watched: bool) -> Explained {
+    if is_watched || words.iter().any(|word| *word == "--explain") {
+        Explained::Faults
+    } else {
+        Explained::Nothing
     }
 }
 
@@ -106,7 +161,7 @@ fn refuse_words<E: Write>(errors: &mut E) -> u8
     ensures { result ≡ COMMAND_LINE }
 {
     end_by(
-        "the words are `replay`, `run` or `run --journal`",
+        "the words are `replay`, `run` or `run --journal`, and `--explain`",
         COMMAND_LINE,
         errors,
     )

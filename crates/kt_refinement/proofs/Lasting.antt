@@ -1,5 +1,5 @@
 -- Of every step from a state that steps lead to: whom it makes roll back, or take a checkpoint, has to.
--- Cited by `laws::checkpoints_and_rollbacks_are_forced`; kt_core.
+-- Cited by `laws::checkpoints_and_rollbacks_are_forced`; other crates.
 use Rattle.std.proofs.Common.{◌≡◌, Ok, Err, Result, inl, inr, refl, ap, subst}
 use Rattle.kt_tuple.specs.declared.node.NodeId.{NodeId}
 use Rattle.kt_state.specs.declared.plan.Plan.{Plan}

@@ -1,7 +1,7 @@
 -- What every state leaves in its store, of what a world that is resumed from it asks of labels and instances: what a
 -- permanent checkpoint has heard the sender's has sent, no label is of a later incarnation, and a tentative checkpoint's
 -- instance is on the board.
--- Cited by `laws::what_a_world_leaves_can_be_resumed`; kt_core.
+-- Cited by `laws::what_a_world_leaves_can_be_resumed`; other crates.
 use Rattle.std.proofs.Common.{◌≡◌, ◌≤◌, IsTrue, Option, inl, inr, sym, ap, subst, ◌∙◌, arith}
 use Rattle.std.specs.Option.{option_map}
 use Rattle.std.proofs.lemmas.Bool.{cases_eq}

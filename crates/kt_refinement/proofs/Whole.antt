@@ -2,7 +2,7 @@
 -- back, nothing that is remembered has lost anything of its past. So all that is promised holds.
 -- Cited by Leaving, `laws::a_resumed_world_has_the_permanent_services`, `laws::all_that_is_promised_holds`,
 --   `laws::nothing_remembered_is_lost_in_steady_states`, `laws::permanent_checkpoints_are_causally_closed`,
---   `laws::permanent_tuples_are_those_of_one_run`, `laws::steady_shards_hold_the_survivors_tuples`; kt_core.
+--   `laws::permanent_tuples_are_those_of_one_run`, `laws::steady_shards_hold_the_survivors_tuples`; other crates.
 use Rattle.std.proofs.Common.{◌≡◌, ℕ, zero, suc, true, Bool, List, [], ◌∷◌, None, IsTrue, refl, subst}
 use Rattle.std.specs.List.{list_all}
 use Rattle.kt_tuple.specs.Node.{node_index}

@@ -6,7 +6,6 @@
 //!   checkpoints are a consistent cut.
 //! - Stands on: kt_tuple, kt_script, kt_space, kt_link, kt_shard, kt_worker, kt_vote, kt_history, kt_scenario, kt_ckpt,
 //!   kt_store, kt_protocol, kt_logs, kt_state, kt_node, kt_model
-//! - Used by: kt_core
 //! - Begin in: `laws.rt`, then `proofs/Represents.antt`: how a state of the world stands for one of the machine.
 #![tactic(auto)]
 

@@ -1,7 +1,7 @@
 -- What was read of a store's nodes, and the content that these facts are of.
 -- Cited by Founds, found.rt, judging.rt, labels.rt, leads.rt, logs.rt, parts.rt, scene.rt, `judging::first_unfit`,
 --   `judging::fits_in`, `judging::is_fit`, `labels::labels_fit`, `leads::leads_to`, `logs::history_of`,
---   `logs::logs_of`, `parts::room_behind`; kt_core.
+--   `logs::logs_of`, `parts::room_behind`; other crates.
 use Rattle.std.specs.Prelude.{ℕ, List, [], map, None}
 use Rattle.kt_script.specs.declared.command.Command.{Command}
 use Rattle.kt_store.specs.declared.rows.NodeRow.{NodeRow}

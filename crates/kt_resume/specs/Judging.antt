@@ -1,5 +1,5 @@
 -- What was found of a store fits a scene, and the first node of which it does not.
--- Cited by judging.rt, `judging::first_unfit`; kt_core.
+-- Cited by judging.rt, `judging::first_unfit`; other crates.
 use Rattle.std.specs.Prelude.{◌≡◌, List, ◌∷◌, ◌++◌, All, IsTrue}
 use Rattle.kt_tuple.specs.declared.node.NodeId.{NodeId}
 use Rattle.kt_store.specs.Content.{Content}

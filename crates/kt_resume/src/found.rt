@@ -1,5 +1,5 @@
 //! What a store holds of its nodes.
-//! Cited by judging.rt, labels.rt, logs.rt, parts.rt; kt_core.
+//! Cited by judging.rt, labels.rt, logs.rt, parts.rt; other crates.
 
 ghost use Rattle.std.specs.Prelude.{◌≡◌};
 ghost use Rattle.std.specs.Option.{option_copied};

@@ -1,5 +1,5 @@
 //! Whether what a store holds of each node fits the scene.
-//! Cited by kt_core.
+//! Cited by other crates.
 
 ghost use Rattle.std.specs.Prelude.{◌≡◌, ◌↔◌, ◌≤◌, All, IfOk, IfSome, IsTrue, None, length};
 ghost use Rattle.kt_tuple.specs.declared.node.TheConstants.{MAX_WORKERS};

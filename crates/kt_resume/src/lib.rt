@@ -8,7 +8,6 @@
 //!   what a checkpoint has of them (`suits_worker` and `suits_shard`).
 //! - Stands on: kt_tuple, kt_script, kt_space, kt_link, kt_shard, kt_worker, kt_history, kt_scenario, kt_ckpt,
 //!   kt_store, kt_logs, kt_state, kt_node, kt_model
-//! - Used by: kt_core
 //! - Begin in: `found.rt`, then `judging.rt`; `placing.rt` places the acts.
 #![tactic(auto)]
 

@@ -1,5 +1,5 @@
 //! The history of the acts that checkpoints hold.
-//! Cited by kt_core.
+//! Cited by other crates.
 
 ghost use Rattle.std.specs.Prelude.{◌≡◌, ◌≤◌, All, IfOk, length, map};
 ghost use Rattle.kt_tuple.specs.declared.node.TheConstants.{MAX_WORKERS};

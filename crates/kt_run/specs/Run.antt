@@ -1,6 +1,6 @@
 -- What a run from bytes to bytes answers, and what it leaves read and written.
 -- Cited by Outcomes, Replayed, laws.rt, running.rt, `running::run_read`, `running::run_text_returning_store`,
---   `running::run_told`; kt_command.
+--   `running::run_told`; other crates.
 use Rattle.std.specs.Prelude.{◌≡◌, ℕ, Bool, List, IsTrue, None}
 use Rattle.kt_store.specs.Calls.{Counts}
 use Rattle.kt_store.specs.Content.{Content}

@@ -1,5 +1,5 @@
 //! What ends a run from bytes to bytes early.
-//! Cited by running.rt; kt_command, linda_kt.
+//! Cited by running.rt; other crates.
 
 use kt_scene::{ReplayFault, SceneFault};
 use kt_stage::RunFault;

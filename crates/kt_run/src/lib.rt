@@ -4,7 +4,6 @@
 //!   what is told, and no node had a next step then (`run_text_returning_store`, clause `written`).
 //! - Stands on: kt_tuple, kt_script, kt_space, kt_shard, kt_scenario, kt_text, kt_store, kt_logs, kt_state, kt_node,
 //!   kt_model, kt_core, kt_scene, kt_stage
-//! - Used by: kt_command, linda_kt, kt_quick
 //! - Begin in: `running.rt`, the whole way, then `laws.rt`: the replay of a journal leads to the same state.
 #![tactic(auto)]
 

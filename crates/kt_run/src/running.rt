@@ -1,5 +1,5 @@
 //! From the bytes of a scenario to the bytes that tell of its run.
-//! Cited by kt_command, kt_quick.
+//! Cited by other crates.
 
 ghost use Rattle.std.specs.Prelude.{◌≡◌, Err, IfErr, IfOk, IsTrue, None, OnOk, Some};
 ghost use Rattle.kt_scene.specs.declared.fault.ReplayFault.TheVariants as text_faults;
@@ -11,8 +11,8 @@ ghost use Rattle.kt_run.specs.Run.{WritesFront, WritesRun, WritesRunFront};
 
 use crate::fault::RunTextFault;
 use kt_scene::{
-    ReplayFault, Scenario, Sink, Source, Start, WorkKind, read_scene, read_text, write_journal,
-    write_report,
+    Nobody, Observer, ReplayFault, Scenario, Sink, Source, Start, WorkKind, read_scene, read_text,
+    write_journal, write_report,
 };
 use kt_stage::{Gate, Journal, run_threads_returning_left};
 use kt_store::CkptStore;
@@ -72,6 +72,7 @@ where
         store,
         output,
         gate,
+        &mut Nobody,
     );
     drop(left);
     answer
@@ -79,8 +80,8 @@ where
 
 /// As `run_text`, over a world that begins so: opened, or resumed. It gives the store back. `run_text` drops it, so its
 /// clauses can name no store that a caller sees; these speak of the one that is given back
-/// (docs/DECISIONS.md#the-report).
-pub fn run_text_returning_store<T, R, W, S, G>(
+/// (docs/DECISIONS.md#the-report). The observer is told of what is met on the way, before anything is written.
+pub fn run_text_returning_store<T, R, W, S, G, O>(
     rt: &T,
     alloc: Global,
     start: Start,
@@ -89,6 +90,7 @@ pub fn run_text_returning_store<T, R, W, S, G>(
     store: S,
     output: Output,
     gate: &G,
+    observer: &mut O,
 ) -> (Result<(), RunTextFault>, S)
 where
     T: Threads + Wait + Sync,
@@ -96,6 +98,7 @@ where
     W: Write,
     S: CkptStore + Send + Drop,
     G: Gate + Sync,
+    O: Observer,
     ensures written { OnOk result.0 (WritesRun start (store_value S.CkptStore store) (store_value S.CkptStore result.1)
         output reader.old reader.new writer.old writer.new) }
     ensures front { result.0 ≡ Err (RunTextFault.Text text_faults.Write)
@@ -107,7 +110,7 @@ where
     // Before any fault but the writer's the writer is not called.
     ensures nothing { IfErr result.0 (λ fault. UnlessFront fault (writer.new ≡ writer.old)) }
 {
-    match run_read(rt, alloc, start, reader, store, gate) {
+    match run_read(rt, alloc, start, reader, store, gate, observer) {
         Ok(journal) => {
             let (answer, left) = write_run(alloc, journal, writer, output);
             match answer {
@@ -120,19 +123,21 @@ where
 }
 
 /// Reads a scenario of fault lines and runs it: the journal then.
-fn run_read<T, R, S, G>(
+fn run_read<T, R, S, G, O>(
     rt: &T,
     alloc: Global,
     start: Start,
     reader: &mut Source<R>,
     store: S,
     gate: &G,
+    observer: &mut O,
 ) -> Result<Journal<S>, (RunTextFault, S)>
 where
     T: Threads + Wait + Sync,
     R: Read,
     S: CkptStore + Send + Drop,
     G: Gate + Sync,
+    O: Observer,
     ensures run { IfOk result (λ j. IsRun start reader.old reader.new j.world.is_honest (S.content store) j.steps
         j.world.state) }
     ensures later { IfOk result (λ j. AreLater (S.counts store) j.world.counts) }
@@ -140,24 +145,26 @@ where
         IsRunFault start (store_value S.CkptStore store) (store_value S.CkptStore e.1) reader.old reader.new e.0) }
 {
     match read_text(alloc, reader) {
-        Ok(text) => run_told(rt, alloc, start, &text, store, gate),
+        Ok(text) => run_told(rt, alloc, start, &text, store, gate, observer),
         Err(fault) => Err((RunTextFault::Text(fault), store)),
     }
 }
 
 /// Runs the scenario that the text spells, and gives the journal; with a fault comes the store as it was left.
-fn run_told<T, S, G>(
+fn run_told<T, S, G, O>(
     rt: &T,
     alloc: Global,
     start: Start,
     text: &[u8],
     store: S,
     gate: &G,
+    observer: &mut O,
 ) -> Result<Journal<S>, (RunTextFault, S)>
 where
     T: Threads + Wait + Sync,
     S: CkptStore + Send + Drop,
     G: Gate + Sync,
+    O: Observer,
     ensures run { IfOk result (λ j. IsRunOf start text.now j.world.is_honest (S.content store) j.steps
         j.world.state) }
     ensures later { IfOk result (λ j. AreLater (S.counts store) j.world.counts) }
@@ -166,12 +173,18 @@ where
 {
     let Scenario { scene, work } = match read_scene(alloc, text, WorkKind::Faults) {
         Ok(scenario) => scenario,
-        Err(fault) => return Err((RunTextFault::from(fault), store)),
+        Err(fault) => {
+            observer.misread(alloc, text, WorkKind::Faults, fault);
+            return Err((RunTextFault::from(fault), store));
+        }
     };
     // The work is of the kind that was asked for.
     let faults = work.into_faults().unwrap();
     match run_threads_returning_left(rt, alloc, start, scene, faults, store, gate) {
-        Ok(journal) => Ok(journal),
+        Ok(journal) => {
+            observer.ended(alloc, journal.world(), journal.steps());
+            Ok(journal)
+        }
         Err((fault, left)) => Err((RunTextFault::from(fault), left.into_store())),
     }
 }

@@ -1,5 +1,5 @@
 -- The nodes of a scene: workers and shards, by their numbers.
--- Cited by kt_model, kt_refinement, kt_resume, kt_run, kt_text.
+-- Cited by other crates.
 use Rattle.std.proofs.Common.{◌≡◌, ℕ, zero, suc, ◌<◌, ◌≤◌, Bool, true, false, ◌||◌, List, [], ◌∷◌, length, refl, arith}
 use Rattle.std.specs.Prelude.{is_some, slice_get, IsTrue}
 use Rattle.std.proofs.lemmas.Bool.{or_left, or_right}

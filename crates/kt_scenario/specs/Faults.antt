@@ -1,5 +1,5 @@
 -- Fault lines: which nodes shall fail, or begin a check, and when; and which of these lines a step spends.
--- Cited by faults.rt, `Faults::least_after`; kt_stage.
+-- Cited by faults.rt, `Faults::least_after`; other crates.
 use Rattle.std.specs.Prelude.{ℕ, ◌==◌, min, nat_le, Bool, true, false, not, ◌&&◌}
 use Rattle.std.specs.Prelude.{List, filter, fold, map, set, slice_get, position, Option, None, Some}
 use Rattle.std.specs.List.{list_any}

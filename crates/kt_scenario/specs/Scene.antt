@@ -1,5 +1,5 @@
 -- Who takes part.
--- Cited by Nodes, scene.rt; kt_core, kt_model, kt_refinement, kt_resume, kt_run, kt_scene, kt_stage, kt_text.
+-- Cited by Nodes, scene.rt; other crates.
 use Rattle.std.specs.Prelude.{ℕ, zero, suc, ◌≤◌, nat_le, Bool, false, ◌&&◌, ◌||◌, List, length, Option, None, slice_get}
 use Rattle.std.specs.Prelude.{is_some}
 use Rattle.kt_tuple.specs.declared.node.TheConstants.{MAX_WORKERS, MAX_SHARDS}

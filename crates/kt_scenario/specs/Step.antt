@@ -1,5 +1,5 @@
 -- Whose a step is.
--- Cited by step.rt; kt_core, kt_model, kt_refinement, kt_stage.
+-- Cited by step.rt; other crates.
 use Rattle.kt_tuple.specs.declared.node.NodeId.{NodeId}
 use Rattle.kt_scenario.specs.declared.step.Step.{Step}
 use Rattle.kt_scenario.specs.declared.step.Step.TheVariants.{Issue, Repeat, Deliver, Take, Serve, Check, Decide}

@@ -1,5 +1,5 @@
 //! Fault lines: which nodes shall fail, or begin a check, and when.
-//! Cited by kt_stage, kt_text.
+//! Cited by other crates.
 
 ghost use Rattle.std.specs.Prelude.{◌≡◌, ◌==◌, ◌&&◌, ◌∷◌, ◌++◌, ℕ, List, [], length, position};
 ghost use Rattle.std.specs.Prelude.{IfOk, IfSome, OnErr, OnOk};

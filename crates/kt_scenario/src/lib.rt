@@ -4,7 +4,6 @@
 //!   `within`). A failure and a check mark, of the lines of their kind and node that are not marked, the one that is
 //!   due first (`Faults::spend`, whose clause names `spent`).
 //! - Stands on: kt_tuple, kt_script, kt_link
-//! - Used by: kt_text, kt_model, kt_resume, kt_refinement, kt_core, kt_scene, kt_stage, kt_run
 //! - Begin in: `scene.rt`, then `step.rt`.
 #![tactic(auto)]
 

@@ -1,5 +1,5 @@
 //! Who takes part in a world.
-//! Cited by kt_core, kt_memory_tests, kt_scene, kt_stage, kt_text.
+//! Cited by other crates.
 
 ghost use Rattle.std.specs.Prelude.{◌≡◌, ◌↔◌, ◌≤◌, length, IsSome, IfSome};
 ghost use Rattle.std.specs.Option.{option_copied};

@@ -1,5 +1,5 @@
 //! The steps of a world.
-//! Cited by faults.rt, scene.rt; kt_core, kt_memory_tests, kt_resume, kt_scene, kt_stage, kt_text.
+//! Cited by faults.rt, scene.rt; other crates.
 
 ghost use Rattle.std.specs.Prelude.{◌≡◌};
 

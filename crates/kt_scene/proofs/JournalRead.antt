@@ -1,5 +1,5 @@
 -- The text of a journal is read as the scenario of its steps.
--- Cited by `laws::what_a_journal_tells_is_read`; kt_run.
+-- Cited by `laws::what_a_journal_tells_is_read`; other crates.
 use Rattle.std.proofs.Common.{◌≡◌, ℕ, ◌≤◌, List, [], ◌∷◌, ◌++◌, length, map, Ok, refl, sym, ap, ◌∙◌, append_assoc, arith}
 use Rattle.std.proofs.lemmas.Grind.{flat_map-append}
 use Rattle.std.proofs.lemmas.List.Elements.{All-nil, All-cons, All-head, All-tail, All-append, filter-append}

@@ -1,5 +1,5 @@
 -- What is said of an answer, where something follows from it.
--- Cited by `replaying::replay`, `replaying::resume_replay`; kt_run.
+-- Cited by `replaying::replay`, `replaying::resume_replay`; other crates.
 use Rattle.std.proofs.Common.{Result, Ok, Err}
 use Rattle.std.specs.Prelude.{IfErr, OnOk}
 

@@ -1,5 +1,5 @@
 -- A state has one report.
--- Cited by `laws::a_state_has_one_report`; kt_run.
+-- Cited by `laws::a_state_has_one_report`; other crates.
 use Rattle.std.proofs.Common.{◌≡◌, ℕ, true, List, [], ◌++◌, length, map, IsPermutation, refl, sym, ap, subst, ◌∙◌}
 use Rattle.std.specs.Prelude.{codes}
 use Rattle.std.specs.List.{flat_map}

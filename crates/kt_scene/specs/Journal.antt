@@ -1,5 +1,5 @@
 -- The text of a journal: a report as remarks, and then the scenario of the steps that led to it.
--- Cited by JournalRead, JournalWritten, journal.rt, laws.rt, `journal::push_remarks`; kt_run.
+-- Cited by JournalRead, JournalWritten, journal.rt, laws.rt, `journal::push_remarks`; other crates.
 use Rattle.std.specs.Prelude.{ℕ, Bool, List, [], ◌++◌, Option, None, Some, codes}
 use Rattle.std.specs.List.{flat_map}
 use Rattle.kt_scenario.specs.declared.step.Step.{Step}

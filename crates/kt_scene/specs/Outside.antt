@@ -1,6 +1,6 @@
 -- A reader and a writer as contracts see them.
--- Cited by JournalWritten, Replays, sink.rt, source.rt, specs/Journal, specs/Report, specs/Run, specs/Stream;
---   kt_command, kt_quick, kt_run, linda_kt.
+-- Cited by JournalWritten, Replays, sink.rt, source.rt, specs/Journal, specs/Report, specs/Run, specs/Stream; other
+--   crates.
 use Rattle.std.specs.Prelude.{ℕ, List, Option}
 use Rattle.kt_scene.specs.declared.source.Outcome.{Outcome}
 

@@ -1,7 +1,7 @@
 -- What a replay of a scenario answers, and what it leaves read and written.
 -- kt_command, kt_run.
--- Cited by Replays, replaying.rt, `replaying::replay_returning_store`, `replaying::report_returning_store`;
---   kt_command, kt_run.
+-- Cited by Replays, replaying.rt, `replaying::replay_returning_store`, `replaying::report_returning_store`; other
+--   crates.
 use Rattle.std.specs.Prelude.{◌≡◌, ℕ, Bool, List, IsTrue, Err}
 use Rattle.kt_store.specs.Content.{Content}
 use Rattle.kt_core.specs.Starting.{Begins, IsErrorOf, IsUnbegun}

@@ -1,5 +1,5 @@
 -- Making steps one after the other.
--- Cited by Runs, replaying.rt, specs/Run, specs/auxiliary/Making, `replaying::make_steps`; kt_run.
+-- Cited by Runs, replaying.rt, specs/Run, specs/auxiliary/Making, `replaying::make_steps`; other crates.
 use Rattle.std.specs.Prelude.{◌≡◌, ℕ, ◌+◌, true, List, [], ◌∷◌, ◌++◌, length, Ok}
 use Rattle.kt_scenario.specs.declared.step.Step.{Step}
 use Rattle.kt_model.specs.declared.error.StepError.{StepError}

@@ -1,6 +1,6 @@
 -- What is read of a reader and written to a writer.
 -- Cited by JournalWritten, Known, Replays, journal.rt, replaying.rt, report.rt, specs/Journal, specs/Report,
---   specs/Run, stream.rt; kt_command, kt_run.
+--   specs/Run, stream.rt; other crates.
 use Rattle.std.specs.Prelude.{◌≡◌, ℕ, ◌<◌, Bool, List, length, take, Option, Some, None, Err}
 use Rattle.std.specs.Io.KnownBytes.{Appends, Consumes, IsAtEnd}
 use Rattle.kt_text.specs.declared.reading.TheConstants.{MAX_TEXT}

@@ -1,5 +1,5 @@
 //! What ends a replay.
-//! Cited by journal.rt, replaying.rt, report.rt, stream.rt; kt_command, kt_run, linda_kt.
+//! Cited by journal.rt, observer.rt, replaying.rt, report.rt, stream.rt; other crates.
 
 ghost use Rattle.std.specs.Prelude.{◌≡◌};
 

@@ -1,5 +1,5 @@
 //! The text of a journal: a report as remarks, and then the scenario of the steps that led to it.
-//! Cited by kt_run.
+//! Cited by other crates.
 
 ghost use Rattle.std.specs.Prelude.{◌≡◌, ◌++◌, IfErr, IfOk, IsTrue, OnOk, Err};
 ghost use Rattle.kt_core.specs.World.{beside};

@@ -4,7 +4,6 @@
 //!   (`replay_returning_store`, clause `written`), while the store that is given back is honest. The world is opened,
 //!   or goes on from what the store holds.
 //! - Stands on: kt_tuple, kt_script, kt_space, kt_history, kt_scenario, kt_text, kt_store, kt_model, kt_core
-//! - Used by: kt_run, kt_command, linda_kt, kt_quick, kt_memory_tests
 //! - Begin in: `replaying.rt`, the whole way from bytes to bytes, then `report.rt` for writing. The text of a scenario
 //!   is kt_text's.
 #![tactic(auto)]
@@ -12,6 +11,7 @@
 mod fault;
 mod journal;
 mod laws;
+mod observer;
 mod replaying;
 mod report;
 mod sink;
@@ -25,6 +25,7 @@ pub use kt_text::{
     MAX_TEXT, Scenario, SceneError, SceneFault, Work, WorkKind, read_scene, write_scene,
 };
 pub use laws::{a_state_has_one_report, what_a_journal_tells_is_read};
+pub use observer::{Nobody, Observer};
 pub use replaying::{
     replay, replay_returning_store, replay_world, report_returning_store, resume_replay,
 };

@@ -1,5 +1,5 @@
 //! From the bytes of a scenario to the bytes of its report.
-//! Cited by kt_command.
+//! Cited by other crates.
 
 ghost use Rattle.std.specs.Prelude.{◌≡◌, ◌≢◌, Err, IfOk, IfErr, IsTrue, OnOk};
 ghost use Rattle.kt_text.specs.Work.{steps_of};
@@ -12,6 +12,7 @@ ghost use Rattle.kt_scene.specs.Stream.{UnlessWrite};
 ghost use Rattle.kt_core.specs.Store.{IsLeftSome, store_value};
 
 use crate::fault::ReplayFault;
+use crate::observer::{Nobody, Observer};
 use crate::report::{report_text, write_report};
 use crate::sink::Sink;
 use crate::source::Source;
@@ -45,7 +46,14 @@ pub fn replay<R: Read, W: Write, S: CkptStore + Drop>(
     // Before any fault but the writer's the writer is not called.
     ensures nothing { IfErr result (λ fault. UnlessWrite fault (writer.new ≡ writer.old)) }
 {
-    let (answer, left) = replay_returning_store(alloc, Start::Open, reader, writer, store);
+    let (answer, left) = replay_returning_store(
+        alloc,
+        Start::Open,
+        reader,
+        writer,
+        store,
+        &mut Nobody,
+    );
     drop(left);
     answer
 }
@@ -70,20 +78,28 @@ pub fn resume_replay<R: Read, W: Write, S: CkptStore + Drop>(
     // Before any fault but the writer's the writer is not called.
     ensures nothing { IfErr result (λ fault. UnlessWrite fault (writer.new ≡ writer.old)) }
 {
-    let (answer, left) = replay_returning_store(alloc, Start::Resume, reader, writer, store);
+    let (answer, left) = replay_returning_store(
+        alloc,
+        Start::Resume,
+        reader,
+        writer,
+        store,
+        &mut Nobody,
+    );
     drop(left);
     answer
 }
 
 /// As `replay` or `resume_replay`, by how the world begins, and gives the store back. Those two drop it, so their
 /// clauses can name no store that a caller sees; these speak of the one that is given back
-/// (docs/DECISIONS.md#the-report).
-pub fn replay_returning_store<R: Read, W: Write, S: CkptStore + Drop>(
+/// (docs/DECISIONS.md#the-report). The observer is told of what is met on the way, before the report is written.
+pub fn replay_returning_store<R: Read, W: Write, S: CkptStore + Drop, O: Observer>(
     alloc: Global,
     start: Start,
     reader: &mut Source<R>,
     writer: &mut Sink<W>,
     store: S,
+    observer: &mut O,
 ) -> (Result<(), ReplayFault>, S)
     ensures written { OnOk result.0 (WritesReplayed start (store_value S.CkptStore store)
         (store_value S.CkptStore result.1) reader.old reader.new writer.old writer.new) }
@@ -95,7 +111,7 @@ pub fn replay_returning_store<R: Read, W: Write, S: CkptStore + Drop>(
     // Before any fault but the writer's the writer is not called.
     ensures nothing { IfErr result.0 (λ fault. UnlessWrite fault (writer.new ≡ writer.old)) }
 {
-    match world_or_store(alloc, start, reader, store) {
+    match world_or_store(alloc, start, reader, store, observer) {
         Ok(mut world) => {
             let answer = write_report(alloc, &mut world, writer);
             (answer, world.into_store())
@@ -106,10 +122,11 @@ pub fn replay_returning_store<R: Read, W: Write, S: CkptStore + Drop>(
 
 /// As `replay_returning_store` of a world that is opened, up to the writing: it gives the report and the store. A
 /// command that has to do something between the two then writes the report by `write_text`.
-pub fn report_returning_store<R: Read, S: CkptStore + Drop>(
+pub fn report_returning_store<R: Read, S: CkptStore + Drop, O: Observer>(
     alloc: Global,
     reader: &mut Source<R>,
     store: S,
+    observer: &mut O,
 ) -> Result<(Vec<u8>, S), (ReplayFault, S)>
     ensures told { IfOk result (λ r. IsReplayedReport Start.Open (store_value S.CkptStore store)
         (store_value S.CkptStore r.1) reader.old reader.new r.0.items) }
@@ -117,7 +134,7 @@ pub fn report_returning_store<R: Read, S: CkptStore + Drop>(
         (store_value S.CkptStore e.1) reader.old reader.new e.0) }
     ensures unwritten { IfErr result (λ e. e.0 ≢ ReplayFault.Write) }
 {
-    match world_or_store(alloc, Start::Open, reader, store) {
+    match world_or_store(alloc, Start::Open, reader, store, observer) {
         Ok(mut world) => match report_text(alloc, &mut world) {
             Ok(report) => Ok((report, world.into_store())),
             Err(refused) => Err((refused, world.into_store())),
@@ -139,7 +156,7 @@ pub fn replay_world<R: Read, S: CkptStore + Drop>(
     ensures fault { IfErr result (λ fault. IsLeftSome (store_value S.CkptStore) (λ left.
         IsWorldFault Start.Open (store_value S.CkptStore store) left reader.old reader.new fault)) }
 {
-    match world_or_store(alloc, Start::Open, reader, store) {
+    match world_or_store(alloc, Start::Open, reader, store, &mut Nobody) {
         Ok(world) => Ok(world),
         Err((fault, left)) => {
             drop(left);
@@ -150,11 +167,12 @@ pub fn replay_world<R: Read, S: CkptStore + Drop>(
 
 /// The world that begins so, after the steps of the scenario that is read. It gives the store back where it is refused,
 /// so that the clause can speak of that store.
-fn world_or_store<R: Read, S: CkptStore + Drop>(
+fn world_or_store<R: Read, S: CkptStore + Drop, O: Observer>(
     alloc: Global,
     start: Start,
     reader: &mut Source<R>,
     store: S,
+    observer: &mut O,
 ) -> Result<World<S>, (ReplayFault, S)>
     ensures replayed { IfOk result (λ world.
         IsReplayed start reader.old reader.new world.is_honest (S.content store) world.state) }
@@ -163,17 +181,18 @@ fn world_or_store<R: Read, S: CkptStore + Drop>(
         (store_value S.CkptStore e.1) reader.old reader.new e.0) }
 {
     match read_text(alloc, reader) {
-        Ok(text) => world_told(alloc, start, &text, store),
+        Ok(text) => world_told(alloc, start, &text, store, observer),
         Err(fault) => Err((fault, store)),
     }
 }
 
 /// The world after the steps of the scenario that the text spells.
-fn world_told<S: CkptStore + Drop>(
+fn world_told<S: CkptStore + Drop, O: Observer>(
     alloc: Global,
     start: Start,
     text: &[u8],
     store: S,
+    observer: &mut O,
 ) -> Result<World<S>, (ReplayFault, S)>
     ensures leads { IfOk result (λ world. LeadsTo start text.now world.is_honest (S.content store) world.state) }
     ensures counts { IfOk result (λ world. world.counts ≡ S.counts store) }
@@ -181,16 +200,23 @@ fn world_told<S: CkptStore + Drop>(
         (store_value S.CkptStore e.1) text.now e.0) }
 {
     match read_scene(alloc, text, WorkKind::Steps) {
-        Ok(scenario) => run_scenario(alloc, start, scenario, store),
-        Err(SceneFault { line, cause }) => Err((ReplayFault::Scene { line, cause }, store)),
+        Ok(scenario) => run_scenario(alloc, start, text, scenario, store, observer),
+        Err(fault) => {
+            observer.misread(alloc, text, WorkKind::Steps, fault);
+            let SceneFault { line, cause } = fault;
+            Err((ReplayFault::Scene { line, cause }, store))
+        }
     }
 }
 
-fn run_scenario<S: CkptStore + Drop>(
+/// The world after the steps of the scenario, which the text spells.
+fn run_scenario<S: CkptStore + Drop, O: Observer>(
     alloc: Global,
     start: Start,
+    text: &[u8],
     scenario: Scenario,
     store: S,
+    observer: &mut O,
 ) -> Result<World<S>, (ReplayFault, S)>
     ensures replayed { IfOk result (λ world. IsTrue world.is_honest
         → BeginsAndRunsTo start (S.content store) (model_of scenario).scene (steps_of (model_of scenario).work)
@@ -201,16 +227,18 @@ fn run_scenario<S: CkptStore + Drop>(
         (model_of scenario).scene (steps_of (model_of scenario).work) e.0) }
 {
     let Scenario { scene, work } = scenario;
-    run(alloc, start, scene, work.steps(), store)
+    run(alloc, start, text, scene, work.steps(), store, observer)
 }
 
-/// The world of the scene after these steps.
-fn run<S: CkptStore + Drop>(
+/// The world of the scene after these steps, which the text spells.
+fn run<S: CkptStore + Drop, O: Observer>(
     alloc: Global,
     start: Start,
+    text: &[u8],
     scene: Scene,
     steps: &[Step],
     store: S,
+    observer: &mut O,
 ) -> Result<World<S>, (ReplayFault, S)>
     ensures replayed { IfOk result (λ world. IsTrue world.is_honest
         → BeginsAndRunsTo start (S.content store) scene steps.now world.state) }
@@ -220,8 +248,14 @@ fn run<S: CkptStore + Drop>(
 {
     match start.begin(alloc, scene, store) {
         Ok(mut world) => match make_steps(alloc, &mut world, steps) {
-            Ok(()) => Ok(world),
-            Err(fault) => Err((fault, world.into_store())),
+            Ok(()) => {
+                observer.ended(alloc, &world, steps);
+                Ok(world)
+            }
+            Err(fault) => {
+                observer.stopped(alloc, text, &world, steps, fault);
+                Err((fault, world.into_store()))
+            }
         },
         Err(refused) => Err((ReplayFault::from(refused.cause), refused.store)),
     }

@@ -1,5 +1,5 @@
 //! The report of a world: what survives, what is lost, and the tuples.
-//! Cited by journal.rt, replaying.rt; kt_run.
+//! Cited by journal.rt, replaying.rt; other crates.
 
 ghost use Rattle.std.specs.Prelude.{◌≡◌, ◌≢◌, ◌++◌, List, ℕ, map, IfOk, IfErr, IsTrue, OnErr, OnOk, Err};
 ghost use Rattle.std.specs.List.{flat_map};

@@ -1,5 +1,5 @@
 //! A writer and what its calls came to.
-//! Cited by journal.rt, replaying.rt, report.rt, stream.rt; kt_command, kt_quick, kt_run, linda_kt.
+//! Cited by journal.rt, replaying.rt, report.rt, stream.rt; other crates.
 
 use crate::source::Outcome;
 use std::fmt::Display;

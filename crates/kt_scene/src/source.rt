@@ -1,5 +1,5 @@
 //! A reader and what its calls came to.
-//! Cited by replaying.rt, sink.rt, stream.rt; kt_command, kt_quick, kt_run, linda_kt.
+//! Cited by replaying.rt, sink.rt, stream.rt; other crates.
 
 use std::io::{ErrorKind, Read};
 use std::marker::Model;

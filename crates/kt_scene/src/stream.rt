@@ -1,5 +1,5 @@
 //! All bytes of a reader, and all bytes to a writer.
-//! Cited by journal.rt, replaying.rt, report.rt; kt_command, kt_run.
+//! Cited by journal.rt, replaying.rt, report.rt; other crates.
 
 ghost use Rattle.std.specs.Prelude.{◌≡◌, ◌≤◌, length, IfOk, IfErr, OnOk, OnErr};
 ghost use Rattle.kt_scene.specs.Stream.{IsAllRead, IsReadFault, WritesAll, WritesFront};

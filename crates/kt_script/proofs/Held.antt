@@ -1,5 +1,5 @@
 -- What the names stand for, held as a list of values.
--- Cited by Count, Known, OneKind, Reaches; kt_model.
+-- Cited by Count, Known, OneKind, Reaches; other crates.
 use Rattle.std.proofs.Common.{◌≡◌, suc, Bool, true, false, true≢false, cond, List, [], ◌∷◌, ◌++◌, length, None, Some, flat_map, refl, sym, ap, ◌∙◌, arith}
 use Rattle.std.specs.Prelude.{if◌then◌else◌, is_some}
 use Rattle.std.specs.Cmp.{unsigned_Decides}

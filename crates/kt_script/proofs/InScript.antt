@@ -1,5 +1,5 @@
 -- Answers lead to positions of the script, where each variable has a value of its kind.
--- Cited by `laws::answers_lead_to_places_of_the_script`, `laws::variables_keep_their_kinds`; kt_worker.
+-- Cited by `laws::answers_lead_to_places_of_the_script`, `laws::variables_keep_their_kinds`; other crates.
 use Rattle.std.proofs.Common.{◌≡◌, ℕ, zero, suc, ◌+◌, ◌≤◌, ℤ, Bool, true, false, true≢false, cond, List, [], ◌∷◌, ◌++◌}
 use Rattle.std.proofs.Common.{length, drop, fold, Option, None, Some, slice_get, flat_map, refl, sym, ap, subst, ◌∙◌, arith}
 use Rattle.std.specs.Prelude.{if◌then◌else◌}

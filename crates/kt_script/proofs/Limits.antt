@@ -1,5 +1,5 @@
 -- A script keeps the limits on commands and variables.
--- Cited by `laws::a_script_keeps_its_limits`; kt_core.
+-- Cited by `laws::a_script_keeps_its_limits`; other crates.
 use Rattle.std.proofs.Common.{◌≡◌, ◌≤◌, Bool, true, false, List, [], ◌∷◌, ◌++◌, length, length-append}
 use Rattle.std.proofs.Common.{append_assoc, None, Some, refl, sym, subst, arith}
 use Rattle.std.specs.Prelude.{nat_lt, nat_le, not, ◌&&◌, if◌then◌else◌}

@@ -1,5 +1,5 @@
 -- A script with one command more.
--- Cited by Limits, OneKind, `Script::append`, `variables::bind`; kt_text.
+-- Cited by Limits, OneKind, `Script::append`, `variables::bind`; other crates.
 use Rattle.std.proofs.Common.{◌≡◌, Bool, true, false, cond, List, [], ◌∷◌, ◌++◌, flat_map, None, Some}
 use Rattle.std.proofs.Common.{Result, Ok, Err, IsOk, OnOk, append_assoc, refl, sym, ap, subst, ◌∙◌}
 use Rattle.std.specs.Prelude.{if◌then◌else◌, is_some}

@@ -1,5 +1,5 @@
 -- The position and the values that are kept reach the operation that is asked next.
--- Cited by `Script::has_next`, `Script::next`, `laws::next_and_bind_reach_what_is_asked`; kt_worker.
+-- Cited by `Script::has_next`, `Script::next`, `laws::next_and_bind_reach_what_is_asked`; other crates.
 use Rattle.std.proofs.Common.{◌≡◌, ℕ, zero, suc, ◌+◌, ℤ, List, [], ◌∷◌, length, drop, fold, Option}
 use Rattle.std.proofs.Common.{None, Some, slice_get, flat_map, refl, sym, ap, subst, ◌∙◌, add-one}
 use Rattle.std.specs.Prelude.{if◌then◌else◌}

@@ -1,5 +1,5 @@
 -- What a script asks next, told from all the answers since its beginning.
--- Cited by Reaches, env.rt, laws.rt, script.rt, specs/Next; kt_model, kt_resume, kt_worker.
+-- Cited by Reaches, env.rt, laws.rt, script.rt, specs/Next; other crates.
 use Rattle.std.specs.Prelude.{ℕ, zero, suc, ℤ, Bool, true, false, if◌then◌else◌, List, [], ◌∷◌, Option, None, Some}
 use Rattle.kt_tuple.specs.declared.op.Op.{Op}
 use Rattle.kt_tuple.specs.declared.op.Answer.{Answer}

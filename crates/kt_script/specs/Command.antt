@@ -1,6 +1,6 @@
 -- What the commands of a script bind and use.
 -- Cited by Held, InScript, Known, Limits, OneKind, Pushed, Reaches, command.rt, laws.rt, rules.rt, specs/Asks,
---   specs/Next, specs/Rules, specs/Variables, `command::slot_bindings`; kt_text.
+--   specs/Next, specs/Rules, specs/Variables, `command::slot_bindings`; other crates.
 use Rattle.std.specs.Prelude.{List, [], ◌∷◌, None, Some, flat_map}
 use Rattle.kt_tuple.specs.declared.value.Kind.{Kind}
 use Rattle.kt_tuple.specs.declared.value.Kind.TheVariants as kinds

@@ -1,6 +1,6 @@
 -- What a command means where the variables have values: what it asks for, and what it binds.
 -- Cited by Held, InScript, Reaches, Unbound, env.rt, laws.rt, meaning.rt, next.rt, specs/Asks, specs/Memory,
---   specs/Next, specs/auxiliary/Scope, variables.rt, `Scope::places_of`, `Scope::values_of`; kt_model.
+--   specs/Next, specs/auxiliary/Scope, variables.rt, `Scope::places_of`, `Scope::values_of`; other crates.
 use Rattle.std.specs.Prelude.{ℤ, pos, Bool, false, if◌then◌else◌, List, [], ◌∷◌, map, Option, None, Some}
 use Rattle.std.specs.Int.{saturate_signed, w64}
 use Rattle.std.specs.Prelude.{◌+ℤ◌}

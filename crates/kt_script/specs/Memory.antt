@@ -1,7 +1,7 @@
 -- What a worker keeps between two operations of its script: a value for each variable, and whether the last
 -- answer was none.
 -- Cited by Held, InScript, Limits, PlaceLemmas, Reaches, Remains, Unbound, env.rt, laws.rt, meaning.rt, next.rt,
---   script.rt, specs/Next, specs/auxiliary/Scope, variables.rt, `variables::zeros_of`; kt_model, kt_worker.
+--   script.rt, specs/Next, specs/auxiliary/Scope, variables.rt, `variables::zeros_of`; other crates.
 use Rattle.std.specs.Prelude.{pos, Bool, false, if◌then◌else◌, List, [], ◌∷◌, map, Option, None, Some}
 use Rattle.std.specs.Map.{values_of}
 use Rattle.std.specs.Cmp.Lexicographic.{pointwise}

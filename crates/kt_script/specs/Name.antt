@@ -1,6 +1,6 @@
 -- What may name a variable.
 -- Cited by Count, Held, InScript, Known, OneKind, PlaceLemmas, Pushed, name.rt, specs/Meaning, specs/Memory,
---   specs/Variables, variables.rt; kt_text.
+--   specs/Variables, variables.rt; other crates.
 use Rattle.std.specs.Char.{is_ascii_digit}
 use Rattle.std.specs.Cmp.Lexicographic.{pointwise}
 use Rattle.std.specs.Int.{is_in_range}

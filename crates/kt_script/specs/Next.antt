@@ -1,6 +1,6 @@
 -- What a script does from one operation to the next.
--- Cited by InScript, Reaches, Remains, Unbound, env.rt, laws.rt, next.rt, script.rt, `Script::has_next`; kt_model,
---   kt_resume, kt_worker.
+-- Cited by InScript, Reaches, Remains, Unbound, env.rt, laws.rt, next.rt, script.rt, `Script::has_next`; other
+--   crates.
 use Rattle.std.specs.Prelude.{◌≡◌, ◌≤◌, ℕ, zero, suc, ◌+◌, ℤ, true, if◌then◌else◌, List}
 use Rattle.std.specs.Prelude.{[], ◌∷◌, length, drop, fold, Option, None, Some, slice_get}
 use Rattle.kt_tuple.specs.declared.value.Kind.{Kind}

@@ -1,6 +1,5 @@
 -- Which command may follow a script.
--- Cited by InScript, Limits, OneKind, Pushed, laws.rt, rules.rt, script.rt, `Script::append`; kt_core, kt_model,
---   kt_run, kt_text, kt_worker.
+-- Cited by InScript, Limits, OneKind, Pushed, laws.rt, rules.rt, script.rt, `Script::append`; other crates.
 use Rattle.std.specs.Prelude.{◌≡◌, nat_lt, nat_le, Bool, true, not, ◌&&◌, if◌then◌else◌}
 use Rattle.std.specs.Prelude.{List, [], ◌∷◌, ◌++◌, length, Option, None, Some, is_some}
 use Rattle.std.specs.List.{list_all}

@@ -1,5 +1,5 @@
 -- The one text of each command of a script.
--- Cited by writing.rt; kt_text.
+-- Cited by writing.rt; other crates.
 use Rattle.std.specs.Prelude.{ℕ, List, ◌∷◌, ◌++◌, map, codes, decimal, Some, None}
 use Rattle.std.specs.Fmt.{signed_decimal}
 use Rattle.kt_tuple.specs.Spelling.{value_text, kind_text, in_parentheses}

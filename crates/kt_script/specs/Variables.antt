@@ -1,7 +1,7 @@
 -- The variables of a script: its names in the order in which the text first binds them.
 -- Cited by Count, Held, InScript, Known, Limits, OneKind, Pushed, Reaches, Unbound, laws.rt, rules.rt, script.rt,
 --   specs/Asks, specs/Memory, specs/Next, specs/Rules, specs/auxiliary/Counting, variables.rt, `Script::has_next`,
---   `variables::bind_all`; kt_model, kt_text, kt_worker.
+--   `variables::bind_all`; other crates.
 use Rattle.std.specs.Prelude.{List, [], ◌∷◌, ◌++◌, Option, is_some, if◌then◌else◌, fold, flat_map}
 use Rattle.std.specs.Map.{lookup}
 use Rattle.kt_tuple.specs.declared.value.Kind.{Kind}

@@ -1,5 +1,5 @@
 //! The commands of a script.
-//! Cited by env.rt, equality.rt, meaning.rt, next.rt, rules.rt, script.rt, writing.rt; kt_memory_tests, kt_text.
+//! Cited by env.rt, equality.rt, meaning.rt, next.rt, rules.rt, script.rt, writing.rt; other crates.
 
 ghost use Rattle.std.specs.Prelude.{◌≡◌, IfOk, flat_map};
 ghost use Rattle.kt_script.specs.Command.{slot_bindings};

@@ -1,5 +1,5 @@
 //! What a worker keeps of its script between two operations.
-//! Cited by next.rt, script.rt; kt_worker.
+//! Cited by next.rt, script.rt; other crates.
 
 ghost use Rattle.std.specs.Prelude.{◌≡◌, ◌++◌, ◌∷◌, [], List, IfOk, Some, map};
 ghost use Rattle.kt_script.specs.Asks.{is_none_answer};

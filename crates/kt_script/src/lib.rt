@@ -3,8 +3,6 @@
 //! - Contract: after any list of answers the operation that a script gives next is the one that it asks when it is read
 //!   from its beginning (`Script::next`, clause `asks`).
 //! - Stands on: kt_tuple; of the kit: arrayvec, indexmap, thiserror
-//! - Used by: kt_worker, kt_scenario, kt_text, kt_ckpt, kt_logs, kt_state, kt_node, kt_model, kt_resume,
-//!   kt_refinement, kt_core, kt_scene, kt_stage, kt_run, kt_example, kt_memory_tests
 //! - Begin in: `command.rt` for what a script is made of, then `script.rt`, which keeps the rules. `env.rt` and
 //!   `next.rt` go from one operation to the next.
 #![tactic(auto)]

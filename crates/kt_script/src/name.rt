@@ -1,6 +1,6 @@
 //! The names of variables.
-//! Cited by command.rt, equality.rt, meaning.rt, next.rt, rules.rt, script.rt, variables.rt, writing.rt; kt_ckpt,
-//!   kt_text.
+//! Cited by command.rt, equality.rt, meaning.rt, next.rt, rules.rt, script.rt, variables.rt, writing.rt; other
+//!   crates.
 
 ghost use Rattle.std.specs.Prelude.{◌≡◌, ◌↔◌, IsTrue, IsSome, IfSome};
 ghost use Rattle.std.specs.List.{list_all};

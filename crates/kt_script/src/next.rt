@@ -1,5 +1,5 @@
 //! The operation that a script makes next.
-//! Cited by script.rt; kt_worker.
+//! Cited by script.rt; other crates.
 
 ghost use Rattle.std.specs.Prelude.{◌≡◌, ◌+◌, ◌<◌, ◌^◌, IfOk, length};
 ghost use Rattle.kt_script.specs.auxiliary.Left.{has_next_from};

@@ -1,5 +1,5 @@
 //! The places of a command's tuple or template.
-//! Cited by command.rt.
+//! Cited by command.rt; other crates.
 
 ghost use Rattle.std.specs.Prelude.{◌≡◌, ◌↔◌, IsSome, IfSome};
 ghost use Rattle.kt_tuple.specs.Matching.{HasArity};

@@ -1,6 +1,5 @@
 //! Scripts: commands that keep the rules of variables and the limits.
-//! Cited by env.rt, rules.rt; kt_ckpt, kt_core, kt_memory_tests, kt_node, kt_resume, kt_scenario, kt_state, kt_text,
-//!   kt_worker.
+//! Cited by env.rt, rules.rt; other crates.
 
 ghost use Rattle.std.specs.Prelude.{◌≡◌, ◌↔◌, [], ◌∷◌, ◌++◌, List, IfOk, OnOk, OnErr};
 ghost use Rattle.std.specs.Prelude.{None, Some, Err, is_some, ◌+◌, ◌<◌, ◌^◌, length, drop};

@@ -1,5 +1,5 @@
 //! Why a command may not follow a script.
-//! Cited by script.rt; kt_text.
+//! Cited by script.rt; other crates.
 
 use thiserror::Error;
 

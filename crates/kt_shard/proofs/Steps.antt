@@ -1,5 +1,5 @@
 -- A service is a step of the sequential space on the shard's own tuples.
--- Cited by Written, `laws::services_are_steps_of_the_space`; kt_model.
+-- Cited by Written, `laws::services_are_steps_of_the_space`; other crates.
 use Rattle.std.proofs.Common.{◌≡◌, if◌then◌else◌, ℕ, ◌==◌, Bool, true, false, List, [], ◌∷◌, ◌++◌, Option, None, Some, Ok, refl, subst, sym, eqb-true}
 use Rattle.std.specs.List.{slice_get}
 use Rattle.std.specs.Option.{option_map}

@@ -1,6 +1,5 @@
 -- Reading a table where something was put, and elsewhere.
--- Cited by Again, Written, `laws::a_table_reads_what_was_put`, `laws::other_sessions_stay`; kt_logs, kt_model,
---   kt_refinement, kt_resume, kt_state.
+-- Cited by Again, Written, `laws::a_table_reads_what_was_put`, `laws::other_sessions_stay`; other crates.
 use Rattle.std.proofs.Common.{◌≡◌, ◌≢◌, ℕ, zero, suc, ◌<◌, List, [], ◌∷◌, length, get_or, set, refl, sym, ap, ◌∙◌, arith}
 use Rattle.std.specs.Prelude.{Some}
 use Rattle.std.proofs.lemmas.List.{get_or_default}

@@ -1,5 +1,5 @@
 -- What a shard makes of a request that it hears.
--- Cited by Again, Written, arrival.rt, laws.rt, parts.rt, shard.rt; kt_model, kt_node, kt_state.
+-- Cited by Again, Written, arrival.rt, laws.rt, parts.rt, shard.rt; other crates.
 use Rattle.std.specs.Prelude.{ℕ, nat_lt, if◌then◌else◌, Option, None, Some}
 use Rattle.kt_tuple.specs.declared.op.Answer.{Answer}
 use Rattle.kt_shard.specs.declared.request.Request.{Request}

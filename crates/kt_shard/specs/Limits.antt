@@ -1,5 +1,5 @@
 -- How many sessions a shard has.
--- Cited by Written, laws.rt, parts.rt, shard.rt, specs/Shard; kt_core, kt_model, kt_node, kt_resume, kt_state.
+-- Cited by Written, laws.rt, parts.rt, shard.rt, specs/Shard; other crates.
 use Rattle.std.specs.Prelude.{ℕ, ◌+◌}
 use Rattle.kt_tuple.specs.declared.node.TheConstants.{MAX_WORKERS}
 

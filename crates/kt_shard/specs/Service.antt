@@ -1,6 +1,6 @@
 -- How a shard serves a request.
--- Cited by Again, Steps, Written, laws.rt, parts.rt, service.rt, shard.rt, specs/Views, `Parts::carry_out`; kt_model,
---   kt_node, kt_refinement, kt_run, kt_stage, kt_state.
+-- Cited by Again, Steps, Written, laws.rt, parts.rt, service.rt, shard.rt, specs/Views, `Parts::carry_out`; other
+--   crates.
 use Rattle.std.specs.Prelude.{◌≡◌, ◌≢◌, ℕ, ◌==◌, if◌then◌else◌, List, [], ◌∷◌, ◌++◌}
 use Rattle.std.specs.Prelude.{Option, None, Some, slice_get, Result, Ok, Err, IsOk}
 use Rattle.std.specs.Option.{option_map}

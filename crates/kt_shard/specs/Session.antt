@@ -1,6 +1,6 @@
 -- What a shard remembers of a worker.
 -- Cited by Again, Tables, Written, arrival.rt, laws.rt, parts.rt, request.rt, specs/Arrival, specs/Shard,
---   `laws::other_sessions_stay`, `parts::empty_sessions`; kt_logs, kt_model, kt_resume.
+--   `laws::other_sessions_stay`, `parts::empty_sessions`; other crates.
 use Rattle.std.specs.Prelude.{ℕ, ◌==◌, max, Bool, ◌&&◌, if◌then◌else◌, Option, None, Some}
 use Rattle.kt_tuple.specs.declared.op.Answer.{Answer}
 use Rattle.kt_tuple.specs.Op.{op_eq}

@@ -1,6 +1,6 @@
 -- A shard, as plain data.
 -- Cited by Again, Steps, Written, laws.rt, parts.rt, shard.rt, specs/Arrival, specs/Service, specs/ShardModel,
---   specs/auxiliary/Sharing; kt_core, kt_model, kt_node, kt_resume, kt_run, kt_stage, kt_state.
+--   specs/auxiliary/Sharing; other crates.
 use Rattle.std.specs.Prelude.{ℕ, List, [], replicate}
 use Rattle.kt_tuple.specs.declared.tuple.Tuple.{Tuple}
 use Rattle.kt_shard.specs.declared.session.Session.{Session}

@@ -1,6 +1,5 @@
 -- Tables with an entry for each number.
--- Cited by Tables, Written, laws.rt, specs/Shard; kt_core, kt_logs, kt_model, kt_refinement, kt_resume, kt_stage,
---   kt_state.
+-- Cited by Tables, Written, laws.rt, specs/Shard; other crates.
 use Rattle.std.specs.Prelude.{ℕ, zero, suc, List, [], ◌∷◌, slice_index_or}
 
 -- the entry of a number: d where nothing was put

@@ -1,5 +1,5 @@
 //! What a shard makes of a request that arrives.
-//! Cited by shard.rt; kt_node.
+//! Cited by shard.rt; other crates.
 
 ghost use Rattle.std.specs.Prelude.{◌≡◌, max, IfOk};
 ghost use Rattle.std.specs.Option.{option_copied};

@@ -1,5 +1,5 @@
 //! Why a request is not served.
-//! Cited by shard.rt; kt_node.
+//! Cited by shard.rt; other crates.
 
 use std::alloc::AllocError;
 use thiserror::Error;

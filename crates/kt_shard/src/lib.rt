@@ -4,7 +4,6 @@
 //!   (`Shard::serve`, clause `step`). A request waits once, and is answered again once it was served (`Shard::hear`,
 //!   clause `comes_of_it`).
 //! - Stands on: kt_tuple, kt_space; of the kit: thiserror
-//! - Used by: kt_ckpt, kt_logs, kt_state, kt_node, kt_model, kt_resume, kt_refinement, kt_core, kt_stage, kt_run
 //! - Begin in: `session.rt`, a worker's session (`Session`) at the shard, then `arrival.rt` for what hearing does and
 //!   `service.rt` for what serving does. `parts.rt` puts them together, and `shard.rt` shares them.
 #![tactic(auto)]

@@ -1,5 +1,5 @@
 //! What a shard has: its tuples, and a session for each worker.
-//! Cited by shard.rt; kt_core, kt_resume, kt_state.
+//! Cited by shard.rt; other crates.
 
 ghost use Rattle.std.specs.Prelude.{◌≡◌, ◌<◌, length, replicate, IsTrue, IfOk};
 ghost use Rattle.kt_shard.specs.Limits.{sessions};

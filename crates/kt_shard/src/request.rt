@@ -1,5 +1,5 @@
 //! Requests of workers, and the answers that are kept of them.
-//! Cited by arrival.rt, parts.rt, service.rt, session.rt, shard.rt; kt_ckpt, kt_node, kt_resume, kt_state.
+//! Cited by arrival.rt, parts.rt, service.rt, session.rt, shard.rt; other crates.
 
 ghost use Rattle.std.specs.Prelude.{◌≡◌, IfOk};
 ghost use Rattle.kt_shard.specs.Session.{same_request};

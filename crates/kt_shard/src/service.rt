@@ -1,5 +1,5 @@
 //! What comes of serving a request.
-//! Cited by parts.rt, shard.rt; kt_node, kt_state.
+//! Cited by parts.rt, shard.rt; other crates.
 
 ghost use Rattle.std.specs.Prelude.{◌≡◌, IfOk, IfSome};
 

@@ -1,5 +1,5 @@
 //! What a shard keeps for each worker.
-//! Cited by arrival.rt, parts.rt, request.rt, shard.rt; kt_resume, kt_state.
+//! Cited by arrival.rt, parts.rt, request.rt, shard.rt; other crates.
 
 ghost use Rattle.std.specs.Prelude.{◌≡◌, Some, None, IfOk};
 

@@ -1,5 +1,5 @@
 //! Shards: what each has, alone or with others that look at it.
-//! Cited by parts.rt; kt_ckpt, kt_core, kt_node, kt_resume, kt_stage, kt_state.
+//! Cited by parts.rt; other crates.
 
 ghost use Rattle.std.specs.Prelude.{◌≡◌, ◌<◌, ◌↔◌, false, length, IsTrue, IsOk, IfOk, IfErr, OnOk, OnErr, OnSome};
 ghost use Rattle.std.specs.Option.{option_copied, option_map};

@@ -1,5 +1,5 @@
 -- What stands beside a place, and what becomes of it where a place is put behind all others, and where one is taken out.
--- Cited by Bags, Linked, Numbered, Passing, Rechained, Stays, Tables; kt_history.
+-- Cited by Bags, Linked, Numbered, Passing, Rechained, Stays, Tables; other crates.
 use Rattle.std.proofs.Common.{◌≡◌, ◌≢◌, ℕ, zero, suc, ◌<◌, List, [], ◌∷◌, ◌++◌, length, set, Option, None, Some, refl, sym, ap, ◌∙◌, arith, ◌⊎◌, inl, inr}
 use Rattle.std.specs.List.{slice_get}
 use Rattle.std.proofs.lemmas.Option.{none-some, same_Some}

@@ -1,5 +1,5 @@
 -- The match of a number, and the tuples without it, from the place where it stands.
--- Cited by Bags, Filled, Taken, `laws::no_match_is_given_where_fewer_match`; kt_shard.
+-- Cited by Bags, Filled, Taken, `laws::no_match_is_given_where_fewer_match`; other crates.
 use Rattle.std.proofs.Common.{◌≡◌, ℕ, zero, suc, ◌<◌, ◌≤◌, Bool, true, false, cond, List, [], ◌∷◌, ◌++◌, length, get_or, take, remove}
 use Rattle.std.proofs.Common.{Some, refl, sym, ap, ◌∙◌, arith}
 use Rattle.std.specs.List.{slice_get}

@@ -1,6 +1,6 @@
 -- What the match of a number is, and what is left without it.
 -- Cited by `laws::a_bag_makes_steps_of_the_space`, `laws::a_match_is_taken_from_its_place`,
---   `laws::no_match_is_given_where_fewer_match`; kt_history, kt_resume, kt_shard.
+--   `laws::no_match_is_given_where_fewer_match`; other crates.
 use Rattle.std.proofs.Common.{◌≡◌, ℕ, zero, suc, ◌≤◌, Bool, true, false, cond, List, [], ◌∷◌, ◌++◌}
 use Rattle.std.proofs.Common.{length, Contains, IsPermutation, None, Some, inl, inr, sym, refl, ap, subst, ◌∙◌, arith}
 use Rattle.std.specs.List.{slice_get}

@@ -1,7 +1,7 @@
 -- What a template picks from tuples in order of arrival.
 -- Cited by Asked, Bags, Filled, Picked, Searched, Taken, bag.rt, laws.rt, search.rt, specs/auxiliary/Slots,
---   `Bag::count_matches`, `Bag::nth_match_counted`, `Bag::take_nth`, `laws::no_match_is_given_where_fewer_match`;
---   kt_history, kt_model, kt_resume, kt_run, kt_shard.
+--   `Bag::count_matches`, `Bag::nth_match_counted`, `Bag::take_nth`, `laws::no_match_is_given_where_fewer_match`; other
+--   crates.
 use Rattle.std.specs.Prelude.{◌≡◌, ℕ, zero, suc, Bool, true, false, nat_eq, ◌&&◌, if◌then◌else◌}
 use Rattle.std.specs.Prelude.{List, [], ◌∷◌, ◌++◌, length, filter}
 use Rattle.kt_tuple.specs.declared.tuple.Tuple.{Tuple}

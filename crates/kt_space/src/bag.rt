@@ -1,5 +1,5 @@
 //! The bag: tuples in order of arrival, found by their kinds and their first value.
-//! Cited by kt_core, kt_history, kt_resume, kt_scene, kt_shard, kt_state.
+//! Cited by other crates.
 
 ghost use Rattle.std.specs.Prelude.{◌≡◌, ◌≤◌, ◌↔◌, ◌++◌, ◌∷◌, [], length, filter, slice_get};
 ghost use Rattle.std.specs.Prelude.{IsTrue, IsOk, IfOk, IfErr, OnOk, OnErr, is_some, false};

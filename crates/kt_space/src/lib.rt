@@ -5,8 +5,6 @@
 //!   and leaves the others in their order. `Bag::put` (clauses `put` and `comes_back`) puts a tuple behind all others,
 //!   or gives it back.
 //! - Stands on: kt_tuple; of the kit: indexmap
-//! - Used by: kt_shard, kt_history, kt_ckpt, kt_logs, kt_state, kt_node, kt_model, kt_resume, kt_refinement, kt_core,
-//!   kt_scene, kt_stage, kt_run
 //! - Begin in: `bag.rt`, then `search.rt` for how a match is found. `index.rt`, `groups.rt` and `chains.rt` are the
 //!   index below, each over the next.
 #![tactic(auto)]

@@ -1,5 +1,5 @@
 //! Why a store in SQL is not opened.
-//! Cited by migrating.rt, open.rt; linda_kt.
+//! Cited by migrating.rt, open.rt; other crates.
 
 use std::alloc::AllocError;
 use thiserror::Error;

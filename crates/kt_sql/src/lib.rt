@@ -7,7 +7,6 @@
 //!   that the next opening gives a store of just that content (`SqlStore::adopt`, clause `reopened`).
 //! - Stands on: kt_tuple, kt_ckpt, kt_store, kt_sql_tables; of the kit: sqlite, sqlite_std_file, sqlite_trees,
 //!   thiserror
-//! - Used by: linda_kt
 //! - Begin in: `open.rt` for how a store is opened and `migrating.rt` for how one of version 1 is carried over, then
 //!   `calls.rt` for what each call makes of a row. `store.rt` has each answer counted by `tally.rt`.
 #![tactic(auto)]

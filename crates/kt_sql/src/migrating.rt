@@ -1,5 +1,5 @@
 //! How a store of version 1 is carried over.
-//! Cited by linda_kt.
+//! Cited by other crates.
 
 ghost use Rattle.std.specs.Prelude.{◌≡◌, ◌⊎◌, false, codes, Err, IfOk, IfErr, IsTrue};
 ghost use Rattle.sqlite.specs.Held.{state};

@@ -1,5 +1,5 @@
 //! How a store is opened.
-//! Cited by migrating.rt; linda_kt.
+//! Cited by migrating.rt; other crates.
 
 ghost use Rattle.std.specs.Prelude.{◌≡◌, ◌≢◌, ◌↔◌, ◌⊎◌, false, codes, Err, IfOk, IfErr, OnOk, IsTrue};
 ghost use Rattle.std.specs.IoError.{error_kind};

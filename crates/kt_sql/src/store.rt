@@ -1,5 +1,5 @@
 //! A store over tables, which counts the faults of its device and the memory that was refused.
-//! Cited by calls.rt, laws.rt, migrating.rt, open.rt; linda_kt.
+//! Cited by calls.rt, laws.rt, migrating.rt, open.rt; other crates.
 
 ghost use Rattle.std.specs.Prelude.{◌≡◌, ◌==◌, ◌&&◌, ◌≤◌, false, IfOk, IfSome, OnOk, OnErr, IsErrOf, IsTrue};
 ghost use Rattle.std.specs.Prelude.{fold, map, max};

@@ -1,5 +1,5 @@
 -- What tables hold, read back.
--- Cited by CarriedTables, MadeLemmas, TabledLemmas, `ready::readied`; kt_sql.
+-- Cited by CarriedTables, MadeLemmas, TabledLemmas, `ready::readied`; other crates.
 use Rattle.std.proofs.Common.{◌≡◌, true, List, [], ◌∷◌, map, refl, sym, ap, ap₂, subst, ◌∙◌, arith, Less, IsPermutation}
 use Rattle.std.specs.Ordering.{on, nat_cmp}
 use Rattle.std.specs.declared.cmp.Ordering.{Ordering}

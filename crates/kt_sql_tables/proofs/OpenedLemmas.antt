@@ -1,6 +1,6 @@
 -- What is found where a store is opened.
 -- Cited by OldLemmas, `opened::are_said`, `opened::has_no_row`, `opened::kind_of`, `opened::tested`,
---   `ready::readied`; kt_sql.
+--   `ready::readied`; other crates.
 use Rattle.std.proofs.Common.{◌≡◌, ℕ, ◌+◌, ◌<◌, ◌≤◌, negsuc, Bool, true, false, ◌&&◌, List, [], ◌∷◌, length, map, flat_map}
 use Rattle.std.proofs.Common.{refl, sym, ap, ap₂, subst, subst₂, ◌∙◌, arith, IsPermutation}
 use Rattle.std.specs.Prelude.{◌↔◌, IsTrue}

@@ -1,5 +1,5 @@
 -- Tables over a connection, from one call to the next.
--- Cited by AnswerLemmas, `Tables::ask`, `Tables::over`, `Tables::write_both`, `Tables::write`; kt_sql.
+-- Cited by AnswerLemmas, `Tables::ask`, `Tables::over`, `Tables::write_both`, `Tables::write`; other crates.
 use Rattle.std.proofs.Common.{◌≡◌, ◌≤◌, ℕ, Bool, true, false, ◌&&◌, inl, inr, refl, sym, ap, subst, ◌∙◌, arith}
 use Rattle.std.specs.Prelude.{◌↔◌, ◌⊎◌, IsTrue}
 use Rattle.sqlite.specs.Store.{Ghosts}

@@ -2,7 +2,7 @@
 -- Cited by AnswerLemmas, CarriedRows, CarriedTables, CarryLemmas, CellLemmas, carrying.rt, cells.rt, changes.rt,
 --   held.rt, reads.rt, specs/auxiliary/Carrying, specs/auxiliary/Cells, statements.rt, `Tables::cells_of`,
 --   `Tables::put_node`, `Tables::write_both`, `carrying::put_rows`, `changes::promoted`, `statements::execute_both`;
---   kt_sql.
+--   other crates.
 use Rattle.std.specs.Prelude.{◌≡◌, pos, [], ◌∷◌}
 use Rattle.sqlite.specs.declared.types.Value.TheVariants.{Int, Blob}
 use Rattle.sqlite.specs.Values.{or_null}

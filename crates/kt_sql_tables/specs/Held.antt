@@ -1,7 +1,7 @@
 -- Tables over a connection: what they hold, and when that is said.
 -- Cited by AnswerLemmas, TabledLemmas, held.rt, reads.rt, specs/Stopped, `Tables::ask`, `Tables::cells_of`,
 --   `Tables::find_instance`, `Tables::find_open`, `Tables::last_instance`, `Tables::nodes`, `Tables::over`,
---   `Tables::rows_of`, `Tables::write_both`, `Tables::write`; kt_sql, linda_kt.
+--   `Tables::rows_of`, `Tables::write_both`, `Tables::write`; other crates.
 use Rattle.std.specs.Prelude.{◌≡◌, ◌⊎◌, Bool, ◌&&◌, refl, IsTrue}
 use Rattle.std.specs.Coded.{Coded, code_by, coded×, coded_bool}
 use Rattle.sqlite.specs.Store.{Ghosts}

@@ -1,6 +1,6 @@
 -- Tables of version 1 that hold a content, and what it is to carry them over.
 -- Cited by CarryLemmas, OldLemmas, TabledLemmas, carrying.rt, old.rt, specs/auxiliary/OldRows,
---   `carrying::all_cells_of`, `old::are_old_rows`, `old::are_old`, `old::holds_nodes`; kt_sql, linda_kt.
+--   `carrying::all_cells_of`, `old::are_old_rows`, `old::are_old`, `old::holds_nodes`; other crates.
 use Rattle.std.specs.Prelude.{◌≤◌, List, [], ◌∷◌, Option, None, Some, ⊤, IsTrue}
 use Rattle.sqlite.specs.declared.types.Value.{Value}
 use Rattle.sqlite.specs.declared.types.Value.TheVariants.{Blob}

@@ -2,7 +2,7 @@
 -- Cited by CarriedTables, HeldLemmas, ListedLemmas, MadeLemmas, OldLemmas, OpenedLemmas, TabledLemmas, WriteLemmas,
 --   held.rt, opened.rt, ready.rt, specs/Made, specs/Old, specs/Stored, specs/auxiliary/Carrying, `old::are_old`,
 --   `opened::has_no_row`, `opened::put_version`, `opened::tested`, `ready::raised`, `ready::readied`,
---   `tables::create_tables`; kt_sql, linda_kt.
+--   `tables::create_tables`; other crates.
 use Rattle.std.specs.Prelude.{◌≡◌, ◌↔◌, ℕ, Bool, [], ◌∷◌, map, IsTrue}
 use Rattle.sqlite.specs.Order.{Row, column}
 use Rattle.sqlite.specs.Effect.{Database}

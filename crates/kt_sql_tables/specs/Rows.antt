@@ -1,7 +1,7 @@
 -- How the rows of a store stand in the tables.
 -- Cited by AnswerLemmas, CarriedRows, CarriedTables, CarryLemmas, CellLemmas, FoundLemmas, HeldLemmas, OldLemmas,
 --   OpenedLemmas, RowLemmas, TableRows, TabledLemmas, WriteLemmas, carrying.rt, cells.rt, firsts.rt, held.rt, ids.rt,
---   old.rt, reads.rt, records.rt, rows.rt, specs/Cells, specs/Held and 18 more; kt_sql, linda_kt.
+--   old.rt, reads.rt, records.rt, rows.rt, specs/Cells, specs/Held and 18 more; other crates.
 use Rattle.std.specs.Prelude.{◌≡◌, ℕ, ◌+◌, ◌-◌, ◌<◌, ◌≤◌, pos, nat_lt, Bool, true, if◌then◌else◌, List, [], ◌∷◌}
 use Rattle.std.specs.Prelude.{map, Option, None, Some, Result, Ok, Err, ⊤, IsPermutation}
 use Rattle.std.specs.Option.{option_map}

@@ -1,7 +1,7 @@
 -- The three tables.
 -- Cited by AnswerLemmas, CarriedLoop, CarriedRows, CarriedTables, FoundLemmas, ListedLemmas, MadeLemmas, OldLemmas,
 --   OpenedLemmas, PutLemmas, ReadLemmas, ReadyLemmas, StateLemmas, TabledLemmas, Texts, WriteLemmas, held.rt, old.rt,
---   opened.rt, ready.rt, schema.rt, specs/Held, specs/Opened, specs/Stored and 7 more; kt_sql.
+--   opened.rt, ready.rt, schema.rt, specs/Held, specs/Opened, specs/Stored and 7 more; other crates.
 use Rattle.std.specs.Prelude.{ℕ, Bool, true, false, List, [], ◌∷◌, codes, Some}
 use Rattle.sqlite.specs.Collation.TheVariants.{Binary}
 use Rattle.sqlite.specs.Kind.{Kind}

@@ -1,5 +1,5 @@
 -- What a stop of the program inside a call leaves on the disk, where the disk returns what was written.
--- Cited by TabledLemmas, held.rt, reads.rt, `Tables::ask`, `Tables::write_both`, `Tables::write`; kt_sql.
+-- Cited by TabledLemmas, held.rt, reads.rt, `Tables::ask`, `Tables::write_both`, `Tables::write`; other crates.
 use Rattle.std.specs.Prelude.{◌⊎◌, Result, IsTrue, OnOk}
 use Rattle.sqlite.specs.Store.{Ghosts}
 use Rattle.sqlite.specs.Held.{state}

@@ -1,7 +1,7 @@
 -- What lies on a disk that holds a store.
 -- Cited by AnswerLemmas, CarriedTables, HeldLemmas, ListedLemmas, MadeLemmas, TabledLemmas, WriteLemmas, opened.rt,
 --   ready.rt, specs/Held, specs/Old, specs/Stopped, specs/auxiliary/Changing, tables.rt, `Tables::write_both`,
---   `opened::put_version`, `tables::create_tables`; kt_sql.
+--   `opened::put_version`, `tables::create_tables`; other crates.
 use Rattle.std.specs.Prelude.{◌≡◌, ◌⊎◌, [], ◌∷◌, map}
 use Rattle.sqlite.specs.Effect.{Database}
 use Rattle.sqlite.specs.Tree.{Trees}

@@ -1,6 +1,6 @@
 //! How tables of version 1 are carried over: each row of the nodes is put anew, and the version raised, in one
 //! transaction. So a stop leaves the tables as they were or as they are to be, and nothing between.
-//! Cited by kt_sql.
+//! Cited by other crates.
 
 ghost use Rattle.std.specs.Prelude.{◌≡◌, ◌⊎◌, ◌≤◌, true, false, [], map, IfOk, IfErr, OnOk, OnErr, IsTrue};
 ghost use Rattle.std.specs.List.{AllByRecursion};

@@ -1,5 +1,5 @@
 //! Rows, as they are written.
-//! Cited by carrying.rt, changes.rt, firsts.rt, held.rt, old.rt, reads.rt, statements.rt; kt_sql.
+//! Cited by carrying.rt, changes.rt, firsts.rt, held.rt, old.rt, reads.rt, statements.rt; other crates.
 
 ghost use Rattle.std.specs.Prelude.{◌≡◌, ◌≤◌, None, IfOk, IfErr, IfSome};
 ghost use Rattle.sqlite.specs.Values.{bound};

@@ -1,7 +1,7 @@
 //! What is read of the row of a node, and what each write makes of its cells. Each call takes the row itself and not a
 //! reference: where a row is alive as a call of the store ends early, the proof of that call grows by all that a row
 //! may hold.
-//! Cited by kt_sql.
+//! Cited by other crates.
 
 ghost use Rattle.std.specs.Prelude.{◌≡◌, ◌+◌, None, IfSome, MatchOption};
 ghost use Rattle.kt_store.specs.Content.{greatest};

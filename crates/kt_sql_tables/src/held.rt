@@ -1,5 +1,5 @@
 //! Tables over a connection.
-//! Cited by reads.rt; kt_sql.
+//! Cited by reads.rt; other crates.
 
 ghost use Rattle.std.specs.Prelude.{◌≡◌, ◌<◌, ◌≤◌, true, IfOk, OnOk, OnErr, IsTrue};
 ghost use Rattle.sqlite.specs.Values.{bound};

@@ -8,7 +8,6 @@
 //! - Stands on: kt_tuple, kt_ckpt, kt_store; of the kit: sqlite, sqlite_disk, sqlite_tied, sqlite_sql, sqlite_value,
 //!   sqlite_trees, sqlite_resolve, sqlite_rules, sqlite_schema, sqlite_catalog, sqlite_keyed,
 //!   sqlite_typed
-//! - Used by: kt_sql, linda_kt
 //! - Begin in: `tables.rt` for how they are made, then `held.rt` for `Tables` and `reads.rt`. `cells.rt` and `rows.rt`
 //!   have the rows, out and in. `old.rt` and `carrying.rt` are of tables of version 1.
 #![tactic(auto)]

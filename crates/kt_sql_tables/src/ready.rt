@@ -1,5 +1,5 @@
 //! How tables are made ready for a store.
-//! Cited by kt_sql.
+//! Cited by other crates.
 
 ghost use Rattle.std.specs.Prelude.{◌≡◌, ◌≢◌, ◌⊎◌, ◌≤◌, false, Err, IfOk, OnOk, OnErr, IsTrue};
 ghost use Rattle.sqlite_trees.specs.View.{doubt};

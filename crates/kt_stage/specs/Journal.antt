@@ -4,7 +4,7 @@
 -- Cited by Ended, Halts, Making, Seats, Settled, Unmatched, closing.rt, journal.rt, locked_journal.rt, running.rt,
 --   seat.rt, specs/Acting, specs/Closing, specs/Glancing, specs/Running, specs/Settling, specs/auxiliary/Halting,
 --   specs/auxiliary/Midway, stage.rt, `Journal::make`, `RunState::look`, `Stage::close`, `Stage::glance`,
---   `closing::fits` and 2 more; kt_run.
+--   `closing::fits` and 2 more; other crates.
 use Rattle.std.specs.Prelude.{◌≡◌, ℕ, ◌+◌, if◌then◌else◌, List, [], ◌∷◌, ◌++◌}
 use Rattle.std.specs.Prelude.{Result, Ok, Err, IsTrue}
 use Rattle.kt_tuple.specs.declared.node.NodeId.{NodeId}

@@ -2,7 +2,7 @@
 -- it. A step is allowed where it is enabled, the limit of steps left aside.
 -- Cited by Allowed, Asked, Ended, Nobody, Planned, Settled, asking.rt, ending.rt, locked_journal.rt, policy.rt,
 --   running.rt, serving.rt, settling.rt, specs/Running, specs/Settling, specs/auxiliary/Serving, `ending::spend_all`,
---   `policy::first_by`, `policy::next_before_serving`, `settling::next_among`; kt_run.
+--   `policy::first_by`, `policy::next_before_serving`, `settling::next_among`; other crates.
 use Rattle.std.specs.Prelude.{ℕ, ◌==◌, Bool, true, false, not, ◌&&◌, ◌||◌, if◌then◌else◌, List, [], ◌∷◌, ◌++◌}
 use Rattle.std.specs.Prelude.{Option, None, Some, fold, is_some}
 use Rattle.std.specs.List.{find, list_all, list_any}

@@ -1,5 +1,5 @@
 //! What a run asks before and after each service that was searched outside the lock.
-//! Cited by node_thread.rt, running.rt; kt_command, kt_run; whoever calls the trait `Gate`.
+//! Cited by node_thread.rt, running.rt; other crates; whoever calls the trait `Gate`.
 
 use kt_tuple::NodeId;
 

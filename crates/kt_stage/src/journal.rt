@@ -1,5 +1,5 @@
 //! The journal: a world, and all steps that were made in it.
-//! Cited by closing.rt, crossing.rt, ending.rt, locked_journal.rt, running.rt, stage.rt; kt_run.
+//! Cited by closing.rt, crossing.rt, ending.rt, locked_journal.rt, running.rt, stage.rt; other crates.
 
 ghost use Rattle.std.specs.Prelude.{◌≡◌, []};
 

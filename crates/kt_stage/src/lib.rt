@@ -7,7 +7,6 @@
 //!   one. `settle` goes on from any world, on one thread, until no node has a next step (`settles`, `over`).
 //! - Stands on: kt_tuple, kt_script, kt_space, kt_link, kt_shard, kt_worker, kt_vote, kt_history, kt_scenario, kt_ckpt,
 //!   kt_store, kt_state, kt_node, kt_model, kt_core; of the kit: thiserror
-//! - Used by: kt_run, kt_command, linda_kt
 //! - Begin in: `locked_journal.rt`, which has what lies under the lock, then `policy.rt` for the rules, and
 //!   `running.rt`, `node_thread.rt` and `waking.rt` for threads.
 #![tactic(auto)]

@@ -1,5 +1,5 @@
 //! A run: a thread for each node, each by the policy, until no node has a next step.
-//! Cited by stage.rt; kt_command, kt_run, linda_kt.
+//! Cited by stage.rt; other crates.
 
 ghost use Rattle.std.specs.Prelude.{◌≡◌, length, true, IfErr, IfOk, IsTrue, None, Ok};
 ghost use denote.Param.Send.{IsSend, IsSync};

@@ -1,5 +1,5 @@
 -- Numbers in a row.
--- Cited by loading.rt, saving.rt; kt_node, kt_resume.
+-- Cited by loading.rt, saving.rt; other crates.
 use Rattle.std.proofs.Common.{◌≡◌, ℕ, zero, suc, ◌+◌, List, [], ◌∷◌, ◌++◌, append-nil, map, length, refl, ap, ◌∙◌, arith}
 use Rattle.std.specs.List.{flat_map}
 use Rattle.std.proofs.lemmas.List.{map-append}

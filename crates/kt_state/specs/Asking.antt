@@ -1,5 +1,5 @@
 -- What a node asks of others: to take a checkpoint, or to roll back.
--- Cited by asking.rt, `asking::check_asks`, `asking::roll_asks`; kt_model, kt_node, kt_refinement.
+-- Cited by asking.rt, `asking::check_asks`, `asking::roll_asks`; other crates.
 use Rattle.std.specs.Prelude.{ℕ, List, map}
 use Rattle.std.specs.Option.{option_copied}
 use Rattle.kt_tuple.specs.declared.node.NodeId.{NodeId}

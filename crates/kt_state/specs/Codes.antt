@@ -1,6 +1,6 @@
 -- A node and its parts as the code has them, as plain data.
 -- Cited by asking.rt, change.rt, live.rt, loading.rt, node.rt, saving.rt, short_update.rt, specs/auxiliary/Bodies,
---   specs/auxiliary/Rooms, updating.rt, `asking::check_asks`; kt_node.
+--   specs/auxiliary/Rooms, updating.rt, `asking::check_asks`; other crates.
 use Rattle.std.specs.Prelude.{Option, None, Some}
 use Rattle.kt_state.specs.declared.live.Body.{Body as BodyCode}
 use Rattle.kt_state.specs.declared.live.Body.TheVariants as codes

@@ -1,5 +1,5 @@
 -- What a node keeps back.
--- Cited by live.rt, node.rt; kt_core, kt_model, kt_node.
+-- Cited by live.rt, node.rt; other crates.
 use Rattle.std.specs.Prelude.{List, [], Option, slice_get}
 use Rattle.kt_tuple.specs.declared.node.NodeId.{NodeId}
 use Rattle.kt_state.specs.declared.message.AppMessage.{AppMessage}

@@ -2,7 +2,7 @@
 -- Cited by Numbers, Tables, labels.rt, loading.rt, saving.rt, specs/Asking, specs/Loading, specs/Node, specs/Ready,
 --   specs/State, specs/Stored, specs/Updating, specs/auxiliary/Rooms, updating.rt, `loading::no_labels`,
 --   `loading::sessions_of`, `loading::tabled`, `saving::cached_entries`, `saving::listed`, `saving::waiting_entries`,
---   `updating::write`; kt_core, kt_model, kt_node, kt_refinement, kt_resume.
+--   `updating::write`; other crates.
 use Rattle.std.specs.Prelude.{ℕ, zero, suc, ◌+◌, ◌==◌, nat_lt, nat_le, Bool, false, ◌&&◌, ◌||◌}
 use Rattle.std.specs.Prelude.{List, [], ◌∷◌, map, replicate, Option, None, Some}
 use Rattle.kt_link.specs.declared.label.Label.{Label}

@@ -1,5 +1,5 @@
 -- Loading the permanent state.
--- Cited by loading.rt, stored.rt; kt_model, kt_node, kt_refinement, kt_stage.
+-- Cited by loading.rt, stored.rt; other crates.
 use Rattle.std.specs.Prelude.{ℕ, Option, None, Some, Result, Ok, Err}
 use Rattle.std.specs.Option.{option_map}
 use Rattle.kt_ckpt.specs.declared.ckpt.Ckpt.{Ckpt}

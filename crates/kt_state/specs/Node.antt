@@ -1,7 +1,7 @@
 -- A node as plain data, and who it is.
 -- Cited by change.rt, live.rt, loading.rt, node.rt, specs/Asking, specs/Codes, specs/Kept, specs/Loading,
---   specs/Ready, specs/State, specs/Stored, specs/Updating, specs/Views, specs/auxiliary/Bodies, updating.rt; kt_core,
---   kt_model, kt_node, kt_refinement, kt_resume, kt_run, kt_stage.
+--   specs/Ready, specs/State, specs/Stored, specs/Updating, specs/Views, specs/auxiliary/Bodies, updating.rt; other
+--   crates.
 use Rattle.std.specs.Prelude.{ℕ, ◌+◌, List, [], map, Option, None, Some}
 use Rattle.kt_tuple.specs.declared.node.NodeId.{NodeId}
 use Rattle.kt_tuple.specs.declared.node.NodeId.TheVariants as ids

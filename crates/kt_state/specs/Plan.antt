@@ -1,5 +1,5 @@
 -- Plans as plain data.
--- Cited by plan.rt; kt_core, kt_model, kt_node, kt_refinement, kt_run, kt_stage.
+-- Cited by plan.rt; other crates.
 use Rattle.std.specs.Prelude.{[], None, Result}
 use Rattle.kt_state.specs.declared.change.Change.TheVariants as changes
 use Rattle.kt_state.specs.declared.refusal.Refusal.{Refusal}

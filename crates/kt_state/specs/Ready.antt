@@ -1,5 +1,5 @@
 -- When a change can be made.
--- Cited by live.rt, short_update.rt, updating.rt; kt_core, kt_model, kt_node.
+-- Cited by live.rt, short_update.rt, updating.rt; other crates.
 use Rattle.std.specs.Prelude.{◌<◌, ◌+◌, ◌^◌, IfSome}
 use Rattle.kt_tuple.specs.declared.node.NodeId.{NodeId}
 use Rattle.kt_shard.specs.Limits.{sessions}

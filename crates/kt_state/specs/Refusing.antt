@@ -1,5 +1,5 @@
 -- What was answered, beside what is due.
--- Cited by loading.rt, specs/auxiliary/Bodies; kt_core, kt_node.
+-- Cited by loading.rt, specs/auxiliary/Bodies; other crates.
 use Rattle.std.specs.Prelude.{◌≡◌, Result, Ok, Err, IsOk}
 use Rattle.kt_state.specs.declared.refusal.Refusal.{Refusal}
 use Rattle.kt_state.specs.declared.refusal.Refusal.TheVariants as refusals

@@ -1,6 +1,6 @@
 -- What a node works with, as the plain fields of a checkpoint, and back again.
--- Cited by loading.rt, saving.rt, `loading::sessions_of`, `saving::cached_entries`, `saving::waiting_entries`;
---   kt_model, kt_node, kt_refinement, kt_resume, kt_stage.
+-- Cited by loading.rt, saving.rt, `loading::sessions_of`, `saving::cached_entries`, `saving::waiting_entries`; other
+--   crates.
 use Rattle.std.specs.Prelude.{ℕ, ◌==◌, nat_le, Bool, ◌&&◌, if◌then◌else◌, List, [], ◌∷◌, map, length}
 use Rattle.std.specs.Prelude.{Option, None, Some, is_none, Result, Ok, Err}
 use Rattle.std.specs.List.{find, flat_map, list_all}

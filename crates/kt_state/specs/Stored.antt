@@ -1,5 +1,5 @@
 -- What the store says to a node of its checkpoints: nothing stored is the beginning.
--- Cited by specs/Asking, stored.rt; kt_core, kt_model, kt_node, kt_refinement, kt_stage.
+-- Cited by specs/Asking, stored.rt; other crates.
 use Rattle.std.specs.Prelude.{ℕ, ◌==◌, nat_le, Bool, true, false, ◌&&◌, length, List, Option, None, Some}
 use Rattle.std.specs.List.{list_all}
 use Rattle.kt_ckpt.specs.declared.acts.LogAct.{LogAct}

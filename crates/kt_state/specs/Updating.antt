@@ -1,6 +1,6 @@
 -- What becomes of a node, part by part.
 -- Cited by Sieving, Tables, change.rt, short_update.rt, specs/ShortUpdate, specs/auxiliary/Between, updating.rt;
---   kt_core, kt_model, kt_node, kt_refinement.
+--   other crates.
 use Rattle.std.specs.Prelude.{ℕ, ◌+◌, Bool, false, not, ◌&&◌, if◌then◌else◌, Option, None, Some}
 use Rattle.std.specs.Prelude.{List, [], ◌∷◌, ◌++◌, drop, filter}
 use Rattle.kt_tuple.specs.declared.node.NodeId.{NodeId}

@@ -1,5 +1,5 @@
 -- What the code holds and lends, as plain data.
--- Cited by loading.rt, node.rt, saving.rt, specs/auxiliary/Rooms, stored.rt; kt_core, kt_node.
+-- Cited by loading.rt, node.rt, saving.rt, specs/auxiliary/Rooms, stored.rt; other crates.
 use Rattle.std.specs.Prelude.{Bool}
 use Rattle.kt_state.specs.declared.role.Role.{Role as RoleCode}
 use Rattle.kt_state.specs.Node.{Role, Node}

@@ -1,5 +1,5 @@
 -- Votes: what a node has to vote by what it knows, and to whom.
--- Cited by voting.rt; kt_model, kt_node, kt_refinement.
+-- Cited by voting.rt; other crates.
 use Rattle.std.specs.Prelude.{ℕ, Bool, true, false, List, [], ◌∷◌, Option, None, Some}
 use Rattle.kt_tuple.specs.declared.node.NodeId.{NodeId}
 use Rattle.kt_vote.specs.declared.asker.Asker.{Asker}

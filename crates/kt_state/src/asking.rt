@@ -1,5 +1,5 @@
 //! What a node asks of others.
-//! Cited by kt_node.
+//! Cited by other crates.
 
 ghost use Rattle.std.specs.Prelude.{◌≡◌, IfOk};
 ghost use Rattle.kt_state.specs.Asking.{check_ask, check_asks, roll_ask, roll_asks};

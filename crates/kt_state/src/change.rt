@@ -1,5 +1,5 @@
 //! What becomes of a node.
-//! Cited by loading.rt, plan.rt, updating.rt; kt_core, kt_node.
+//! Cited by loading.rt, plan.rt, updating.rt; other crates.
 
 use crate::boxed::Boxed;
 use crate::live::{Live, Phase};

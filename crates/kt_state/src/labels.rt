@@ -1,5 +1,5 @@
 //! Tables of labels, one for each neighbour.
-//! Cited by asking.rt, loading.rt, stored.rt, updating.rt; kt_node.
+//! Cited by asking.rt, loading.rt, stored.rt, updating.rt; other crates.
 
 ghost use Rattle.std.specs.Prelude.{◌≡◌, ◌<◌, length};
 ghost use Rattle.kt_state.specs.Labels.{up_to, label_at, listed_at, first_at, reaches};

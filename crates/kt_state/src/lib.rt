@@ -6,7 +6,6 @@
 //!   the node that goes on from that (their clauses name `checkpoint_of` and `loaded_by`).
 //! - Stands on: kt_tuple, kt_script, kt_space, kt_link, kt_shard, kt_worker, kt_vote, kt_history, kt_ckpt, kt_store; of
 //!   the kit: thiserror
-//! - Used by: kt_node, kt_model, kt_resume, kt_refinement, kt_core, kt_stage, kt_run
 //! - Begin in: `live.rt`, which says what a node has, then `change.rt` and `updating.rt` for what becomes of it, and
 //!   `plan.rt` for what a step may do.
 #![tactic(auto)]

@@ -1,5 +1,5 @@
 //! What a node has while it is not down.
-//! Cited by asking.rt, change.rt, loading.rt, node.rt, saving.rt, short_update.rt, updating.rt; kt_node.
+//! Cited by asking.rt, change.rt, loading.rt, node.rt, saving.rt, short_update.rt, updating.rt; other crates.
 
 ghost use Rattle.std.specs.Prelude.{◌≡◌};
 

@@ -1,5 +1,5 @@
 //! Loading the permanent state.
-//! Cited by kt_core, kt_node.
+//! Cited by other crates.
 
 ghost use Rattle.std.specs.Prelude.{◌≡◌, ◌+◌, ◌<◌, ◌^◌, IfOk, map, Some, None};
 ghost use Rattle.kt_shard.specs.Limits.{sessions};

@@ -1,5 +1,5 @@
 //! What goes from node to node.
-//! Cited by asking.rt, change.rt, live.rt, node.rt, plan.rt, updating.rt, voting.rt; kt_core, kt_node, kt_stage.
+//! Cited by asking.rt, change.rt, live.rt, node.rt, plan.rt, updating.rt, voting.rt; other crates.
 
 ghost use Rattle.std.specs.Prelude.{◌≡◌, IfOk};
 

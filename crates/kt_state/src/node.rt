@@ -1,5 +1,5 @@
 //! A node of the scene.
-//! Cited by loading.rt, short_update.rt, updating.rt; kt_core, kt_node, kt_stage.
+//! Cited by loading.rt, short_update.rt, updating.rt; other crates.
 
 ghost use Rattle.std.specs.Prelude.{◌≡◌, length, slice_get, IfOk};
 ghost use Rattle.std.specs.Option.{option_copied, option_map};

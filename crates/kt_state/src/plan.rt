@@ -1,5 +1,5 @@
 //! What a step does, found out before anything is changed.
-//! Cited by asking.rt, voting.rt; kt_core, kt_node.
+//! Cited by asking.rt, voting.rt; other crates.
 
 ghost use Rattle.std.specs.Prelude.{◌≡◌, [], ◌∷◌, ◌++◌, IfOk, None, OnOk, Some};
 ghost use Rattle.kt_state.specs.Plan.{empty_plan};

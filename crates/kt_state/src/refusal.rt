@@ -1,5 +1,5 @@
 //! Why a node does not make a step.
-//! Cited by loading.rt; kt_core, kt_model, kt_node.
+//! Cited by loading.rt; other crates.
 
 ghost use Rattle.std.specs.Prelude.{◌≡◌};
 ghost use Rattle.kt_state.specs.declared.refusal.Refusal.TheVariants.{OutOfMemory};

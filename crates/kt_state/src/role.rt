@@ -1,5 +1,5 @@
 //! Who a node is.
-//! Cited by loading.rt, saving.rt, stored.rt; kt_core, kt_node.
+//! Cited by loading.rt, saving.rt, stored.rt; other crates.
 
 use kt_script::Script;
 use kt_tuple::NodeId;

@@ -1,5 +1,5 @@
 //! The checkpoint of a moment.
-//! Cited by kt_node.
+//! Cited by other crates.
 
 ghost use Rattle.std.specs.Prelude.{◌≡◌, ◌≤◌, ◌++◌, All, IfOk, OnOk};
 ghost use Rattle.kt_ckpt.specs.Acts.{IsActOf};

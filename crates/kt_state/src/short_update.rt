@@ -1,5 +1,5 @@
 //! What becomes of a node in a frequent step of a worker or a shard.
-//! Cited by updating.rt; kt_core, kt_node.
+//! Cited by updating.rt; other crates.
 
 ghost use Rattle.std.specs.Prelude.{◌≡◌, IsTrue};
 ghost use Rattle.kt_state.specs.declared.change.Change.TheVariants.{Update as Goes};

@@ -1,5 +1,5 @@
 //! What the store says to a node of its checkpoints.
-//! Cited by asking.rt, loading.rt; kt_core, kt_model, kt_node.
+//! Cited by asking.rt, loading.rt; other crates.
 
 ghost use Rattle.std.specs.Prelude.{◌≡◌};
 ghost use Rattle.std.specs.Option.{option_copied};

@@ -1,5 +1,5 @@
 //! Changing a node, once nothing can be refused any more.
-//! Cited by loading.rt, short_update.rt; kt_core.
+//! Cited by loading.rt, short_update.rt; other crates.
 
 ghost use Rattle.std.specs.Prelude.{◌≡◌, ◌<◌, IsTrue, OnOk, length, filter, not, None, Some};
 ghost use Rattle.std.specs.VecDeque.{deque_len, deque_capacity};

@@ -1,5 +1,5 @@
 //! Votes: what a node has to vote by what it knows, and to whom.
-//! Cited by kt_node.
+//! Cited by other crates.
 
 ghost use Rattle.std.specs.Prelude.{◌≡◌, ◌++◌, IfOk, OnOk};
 ghost use Rattle.kt_state.specs.Voting.{casting, poll_after, vote_for, votes};

@@ -1,5 +1,5 @@
 -- A verdict that is written on the board.
--- Cited by `Contents::next_number`, `Contents::settle`, `instance_row::add_instance_row`; kt_model, kt_sql_tables.
+-- Cited by `Contents::next_number`, `Contents::settle`, `instance_row::add_instance_row`; other crates.
 use Rattle.std.proofs.Common.{◌≡◌, ℕ, Bool, true, List, set, AllPairs, [], ◌∷◌, ◌++◌, ◌+◌, get_or, suc, ◌≤◌, All, map, None, Some, refl, ap, ◌∙◌, arith}
 use Rattle.std.specs.Prelude.{nat_lt, fold, max}
 use Rattle.std.specs.List.{slice_get}

@@ -1,5 +1,5 @@
 -- The rows of nodes: one that is changed where it stands, and one that is put among the others.
--- Cited by OtherNodes, `Contents::incarnation_of`, `change::change_row`, `change::insert_row`; kt_sql_tables.
+-- Cited by OtherNodes, `Contents::incarnation_of`, `change::change_row`, `change::insert_row`; other crates.
 use Rattle.std.proofs.Common.{◌≡◌, ℕ, ◌<◌, ◌≤◌, Bool, true, false, cond, List, [], ◌∷◌, ◌++◌, set, insert, length, get_or, All}
 use Rattle.std.proofs.Common.{AllPairs, None, Some, refl, sym, ap, arith, suc, le_of_lt, subst, Result, Ok, Err, OnOk, OnErr}
 use Rattle.std.specs.List.{find, position, slice_get}

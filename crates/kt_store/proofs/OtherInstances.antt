@@ -1,6 +1,5 @@
 -- A row of the board that is written: the instance's own, and every other instance's.
--- Cited by `laws::other_instances_stay`, `laws::other_nodes_stay`, `laws::what_is_written_is_read`; kt_model,
---   kt_refinement.
+-- Cited by `laws::other_instances_stay`, `laws::other_nodes_stay`, `laws::what_is_written_is_read`; other crates.
 use Rattle.std.proofs.Common.{◌≡◌, ℕ, ◌==◌, Bool, true, false, cond, List, [], ◌∷◌, Option, None, Some, refl, ◌∙◌, arith}
 use Rattle.std.specs.Prelude.{nat_lt}
 use Rattle.std.specs.List.{find}

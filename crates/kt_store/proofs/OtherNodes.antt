@@ -1,5 +1,5 @@
 -- A row of a node that is written: the node's own, and every other node's.
--- Cited by `laws::other_nodes_stay`, `laws::what_is_written_is_read`; kt_model.
+-- Cited by `laws::other_nodes_stay`, `laws::what_is_written_is_read`; other crates.
 use Rattle.std.proofs.Common.{◌≡◌, Bool, true, false, cond, List, [], ◌∷◌, Some, refl, sym, ap, ◌∙◌}
 use Rattle.std.specs.List.{find}
 use Rattle.kt_tuple.specs.declared.node.NodeId.{NodeId}

@@ -1,6 +1,6 @@
 -- Rows in rising order: a row that is written in its place, and one that is put behind all others.
--- Cited by Board, Nodes, Numbered, `Contents::settle`, `change::change_row`, `instance_row::instance_row_at`;
---   kt_model, kt_sql_tables.
+-- Cited by Board, Nodes, Numbered, `Contents::settle`, `change::change_row`, `instance_row::instance_row_at`; other
+--   crates.
 use Rattle.std.proofs.Common.{◌≡◌, ℕ, zero, suc, ◌<◌, ◌≤◌, insert, length, get_or, Bool, true, false, cond, List}
 use Rattle.std.proofs.Common.{[], ◌∷◌, ◌++◌, filter, set, All, AllPairs, None, Some, refl, sym, ap, ◌∙◌, arith}
 use Rattle.std.specs.Prelude.{nat_lt}

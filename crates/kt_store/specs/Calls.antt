@@ -1,6 +1,5 @@
 -- What every call of a store keeps, and why it may be refused.
--- Cited by Counting, Faulting, memory.rt, specs/auxiliary/Failing, store.rt; kt_core, kt_run, kt_scene, kt_sql,
---   kt_stage, linda_kt.
+-- Cited by Counting, Faulting, memory.rt, specs/auxiliary/Failing, store.rt; other crates.
 use Rattle.std.specs.Prelude.{◌≡◌, ◌==◌, ℕ, ◌+◌, ◌-◌, ◌^◌, Bool, false, if◌then◌else◌, Result, Ok, Err, IsErrOf}
 use Rattle.kt_store.specs.declared.error.StoreError.{StoreError}
 use Rattle.kt_store.specs.declared.error.StoreError.TheVariants.{Memory, Device, Damaged, Full}

@@ -1,7 +1,7 @@
 -- What each write of a store makes of its content.
 -- Cited by Board, Nodes, OtherInstances, OtherNodes, change.rt, contents.rt, instance_row.rt, laws.rt,
 --   specs/auxiliary/Row, store.rt, `Contents::settle`, `FaultStoreCkptStore::begin_restart`,
---   `FaultStoreCkptStore::bump`, `change::change_row`; kt_model, kt_refinement, kt_sql, kt_sql_tables.
+--   `FaultStoreCkptStore::bump`, `change::change_row`; other crates.
 use Rattle.std.specs.Prelude.{ℕ, ◌+◌, nat_lt, Bool, List, ◌∷◌, ◌++◌, filter, Option, None, Some}
 use Rattle.kt_tuple.specs.declared.node.NodeId.{NodeId}
 use Rattle.kt_ckpt.specs.declared.ckpt.Ckpt.{Ckpt}

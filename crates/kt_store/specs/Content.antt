@@ -4,8 +4,7 @@
 -- Cited by Board, Nodes, Numbered, OtherInstances, OtherNodes, change.rt, contents.rt, instance_row.rt, laws.rt,
 --   memory.rt, rows.rt, specs/Changes, specs/Others, specs/Proper, specs/Stored, specs/auxiliary/Row, store.rt,
 --   `Contents::incarnation_of`, `Contents::next_number`, `Contents::open_instance_of`, `Contents::settle`,
---   `change::change_row`; kt_command, kt_core, kt_model, kt_refinement, kt_resume, kt_run, kt_scene, kt_sql,
---   kt_sql_tables, kt_stage, linda_kt.
+--   `change::change_row`; other crates.
 use Rattle.std.specs.Prelude.{◌≡◌, ℕ, ◌+◌, ◌==◌, ◌^◌, max, Bool, true, false, ◌&&◌}
 use Rattle.std.specs.Prelude.{List, [], ◌∷◌, map, fold, Option, None, Some}
 use Rattle.std.specs.List.{find}

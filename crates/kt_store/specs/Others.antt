@@ -1,5 +1,5 @@
 -- What a write leaves: what is stored of other nodes, and what the board has of other instances.
--- Cited by OtherInstances, OtherNodes, laws.rt; kt_model.
+-- Cited by OtherInstances, OtherNodes, laws.rt; other crates.
 use Rattle.std.specs.Prelude.{◌≡◌, ℕ}
 use Rattle.kt_tuple.specs.declared.node.NodeId.{NodeId}
 use Rattle.kt_store.specs.Content.{Content, instance_row, row_of}

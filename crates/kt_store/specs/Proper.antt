@@ -3,7 +3,7 @@
 -- kt_core, kt_sql,
 --   kt_stage, kt_sql_tables, kt_model.
 -- Cited by Board, Nodes, Numbered, change.rt, contents.rt, instance_row.rt, store.rt,
---   `instance_row::add_instance_row`; kt_core, kt_model, kt_sql, kt_sql_tables, kt_stage.
+--   `instance_row::add_instance_row`; other crates.
 use Rattle.std.specs.Prelude.{◌≡◌, ◌+◌, ◌≤◌, true, nat_lt, List, All, AllPairs}
 use Rattle.kt_tuple.specs.declared.node.NodeId.{NodeId}
 use Rattle.kt_tuple.specs.Node.{is_before}

@@ -1,5 +1,5 @@
 -- A store in memory, as its callers see it.
--- Cited by memory.rt; kt_command.
+-- Cited by memory.rt; other crates.
 use Rattle.std.specs.Prelude.{ℕ}
 use Rattle.kt_store.specs.Content.{Content}
 

@@ -1,6 +1,6 @@
 -- What became of an instance.
 -- Cited by Board, Numbered, OtherInstances, instance_row.rt, laws.rt, rows.rt, specs/Changes, specs/Content,
---   specs/auxiliary/Rising, `Contents::settle`; kt_model, kt_refinement, kt_sql, kt_sql_tables, kt_state.
+--   specs/auxiliary/Rising, `Contents::settle`; other crates.
 use Rattle.std.specs.Prelude.{Bool, true, false}
 use Rattle.kt_store.specs.declared.rows.Verdict.{Verdict}
 use Rattle.kt_store.specs.declared.rows.Verdict.TheVariants.{Open, Yes, No}

@@ -1,6 +1,6 @@
 //! That a store in memory may go to another thread, type by type from within. One search would have to go from the
 //! store down to the letters of a tuple, and gives up before it is there.
-//! Cited by kt_command.
+//! Cited by other crates.
 
 ghost use denote.Param.Send.{IsSend};
 ghost use Rattle.std.specs.contracts.alloc.Global.{the_row as memory_of};

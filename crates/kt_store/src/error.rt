@@ -1,6 +1,5 @@
 //! Why a store refuses a call.
-//! Cited by faulty.rt, memory.rt, store.rt; kt_core, kt_memory_tests, kt_model, kt_scene, kt_sql, kt_sql_tables,
-//!   kt_stage, linda_kt.
+//! Cited by faulty.rt, memory.rt, store.rt; other crates.
 
 use std::alloc::AllocError;
 use thiserror::Error;

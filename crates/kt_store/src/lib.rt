@@ -6,8 +6,6 @@
 //!   `MemStore`, always is. A store counts exactly how often its device failed and how often memory was refused
 //!   (clause `cause`). `FaultStore` keeps all this over any other store, and counts its own fault.
 //! - Stands on: kt_tuple, kt_history, kt_ckpt; of the kit: thiserror
-//! - Used by: kt_sql_tables, kt_sql, kt_state, kt_node, kt_model, kt_resume, kt_refinement, kt_core, kt_scene,
-//!   kt_stage, kt_run, kt_command, linda_kt, kt_example, kt_memory_tests
 //! - Begin in: `store.rt` for the promises and `rows.rt` for what is stored. `memory.rt` is the store in memory, over
 //!   `contents.rt`, `instance_row.rt` and `change.rt`. `faulty.rt` is the store of which one call fails.
 #![tactic(auto)]

@@ -1,6 +1,5 @@
 //! A store in memory.
-//! Cited by crossing.rt; kt_command, kt_memory_tests, kt_sql, kt_sql_tables, linda_kt; whoever calls the trait
-//!   `CkptStore`.
+//! Cited by crossing.rt; other crates; whoever calls the trait `CkptStore`.
 
 ghost use Rattle.std.specs.Prelude.{◌≡◌, Ok, Err, IfOk, IfErr};
 ghost use Rattle.kt_store.specs.Calls.{raised};

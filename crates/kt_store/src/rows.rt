@@ -1,6 +1,5 @@
 //! What a store holds, row by row.
-//! Cited by change.rt, contents.rt, crossing.rt, faulty.rt, instance_row.rt, memory.rt, store.rt; kt_core, kt_model,
-//!   kt_node, kt_sql, kt_sql_tables, kt_state.
+//! Cited by change.rt, contents.rt, crossing.rt, faulty.rt, instance_row.rt, memory.rt, store.rt; other crates.
 
 ghost use Rattle.std.specs.Prelude.{◌≡◌, IfOk};
 

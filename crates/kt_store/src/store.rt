@@ -1,5 +1,5 @@
 //! What a store of checkpoints and verdicts promises.
-//! Cited by faulty.rt, memory.rt; kt_command, kt_core, kt_run, kt_scene, kt_sql, kt_stage, linda_kt.
+//! Cited by faulty.rt, memory.rt; other crates.
 
 ghost use Rattle.std.specs.Prelude.{◌≡◌, ◌⊎◌, ◌+◌, ◌≤◌, ℕ, Bool, None, Some, false, IsTrue, IsErrOf, IfOk, OnOk, OnErr};
 ghost use Rattle.kt_store.specs.declared.rows.Verdict.TheVariants as verdicts;

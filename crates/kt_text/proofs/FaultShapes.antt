@@ -1,5 +1,5 @@
 -- A line that spells a fault is read as it, whatever the size of its number; and the text of a fault is read as that fault.
--- Cited by EntryFaults, LinesRead, WrittenRead; kt_run.
+-- Cited by EntryFaults, LinesRead, WrittenRead; other crates.
 use Rattle.std.proofs.Common.{◌≡◌, ℕ, ◌^◌, ◌<◌, ◌≤◌, true, leb, List, [], ◌++◌, Option, Some, Ok, refl, sym, ap}
 use Rattle.std.proofs.Common.{◌∙◌, append-nil, arith}
 use Rattle.std.proofs.lemmas.Bool.{le-leb}

@@ -1,6 +1,6 @@
 -- A text and its lines, and reading them one after another.
 -- Cited by Begins, EntryFaults, FirstFault, LineFaults, LinesRead, Lowest, OtherKind, Positions, Reached, ReadLaws,
---   ScenarioRead, WorkKinds; kt_scene.
+--   ScenarioRead, WorkKinds; other crates.
 use Rattle.std.proofs.Common.{◌≡◌, ℕ, ◌+◌, ◌≢◌, Bool, true, false, cond, ◌&&◌, eqb, List, [], ◌∷◌, ◌++◌, Result, Ok, Err, refl, sym, ap, subst, ◌∙◌}
 use Rattle.std.proofs.Common.{append_assoc}
 use Rattle.std.proofs.lemmas.Bool.{eqb-true, eqb-false, and_parts, ne_eqb}

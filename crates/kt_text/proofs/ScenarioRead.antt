@@ -1,6 +1,5 @@
 -- The text of a scenario is read as that scenario.
--- Cited by Begins, FirstFault, OtherKind, Positions, WrittenRead, `laws::what_is_spelled_so_is_read`; kt_run,
---   kt_scene.
+-- Cited by Begins, FirstFault, OtherKind, Positions, WrittenRead, `laws::what_is_spelled_so_is_read`; other crates.
 use Rattle.std.proofs.Common.{◌≡◌, ℕ, Bool, true, false, not, cond, ltb, List, [], ◌∷◌, ◌++◌, length, Ok, refl, sym, ap, subst, ◌∙◌, arith}
 use Rattle.std.proofs.lemmas.Bool.{le-ltb}
 use Rattle.std.proofs.lemmas.List.Elements.{All-nil, All-cons, All-push}

@@ -1,5 +1,5 @@
 -- The text that is written of a scenario is read as it.
--- Cited by `laws::what_is_written_is_read`; kt_scene.
+-- Cited by `laws::what_is_written_is_read`; other crates.
 use Rattle.std.proofs.Common.{◌≡◌, ℕ, ◌≤◌, false, List, [], ◌∷◌, ◌++◌, length, map, Ok, refl, ap, arith}
 use Rattle.std.proofs.lemmas.Bool.{and_parts, leb-true}
 use Rattle.std.proofs.lemmas.List.Elements.{All-nil, All-cons, All-head, All-tail, All-append}

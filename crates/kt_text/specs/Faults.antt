@@ -1,8 +1,8 @@
 -- The first fault of the text of a scenario of one kind of work, told by the lines before it and by what such scenarios
 -- are spelled as; no reader is asked. Told lines are those that are not ignored.
 -- Cited by Begins, CommandLaws, CommandShapes, EntryFaults, FaultLaws, FaultShapes, FirstFault, LineFaults, Lowest,
---   NumberShapes, OtherKind, Positions, Told, ToldLaws, VerbShapes, laws.rt, reading.rt, `reading::draft_of`; kt_run,
---   kt_scene.
+--   NumberShapes, OtherKind, Positions, Told, ToldLaws, VerbShapes, laws.rt, reading.rt, `reading::draft_of`; other
+--   crates.
 use Rattle.std.specs.Prelude.{◌≡◌, ◌≢◌, ◌<◌, ◌≤◌, ◌+◌, ℕ, false, List, [], ◌∷◌, ◌++◌, length, filter, codes, decimal}
 use Rattle.std.specs.Prelude.{All}
 use Rattle.std.specs.Int.{w64}

@@ -1,7 +1,7 @@
 -- What the lines of a scenario add to what was read before them, and the first fault of a text.
 -- Cited by Begins, Entries, EntryFaults, Feeding, FirstFault, Fronts, LineFaults, LinesRead, Lowest, NumberShapes,
 --   OtherKind, Positions, Prefixes, Reached, ReadLaws, ScenarioRead, Told, ToldLaws, Words, WorkKinds, WrittenRead,
---   draft.rt, line.rt, reading.rt and 5 more.
+--   draft.rt, line.rt, reading.rt and 5 more; other crates.
 use Rattle.std.specs.Prelude.{ℕ, ◌+◌, nat_lt, nat_le, nat_eq, ◌==◌, ◌&&◌, Bool, true, false}
 use Rattle.std.specs.Prelude.{if◌then◌else◌, List, [], ◌∷◌, ◌++◌, length, codes, Option, Some, None, Result, Ok, Err}
 use Rattle.std.specs.Cmp.Lexicographic.{pointwise}

@@ -1,8 +1,8 @@
 -- What a text is read as: the scenario that it spells, or its first line that has a fault.
 -- Cited by Begins, EntryFaults, Feeding, Feeds, FirstFault, Fronts, LineFaults, OtherKind, Reached, ReadLaws,
 --   ScenarioRead, ScenarioText, WrittenRead, draft.rt, laws.rt, reading.rt, specs/Faults, specs/Scenario, specs/Text,
---   specs/auxiliary/Places, writing.rt, `reading::read_lines`, `reading::read_scene`, `writing::push_scenario`; kt_run,
---   kt_scene.
+--   specs/auxiliary/Places, writing.rt, `reading::read_lines`, `reading::read_scene`, `writing::push_scenario`; other
+--   crates.
 use Rattle.std.specs.Prelude.{◌≡◌, ℕ, ◌+◌, ◌<◌, nat_lt, ◌==◌, ◌&&◌, Bool, true, false, if◌then◌else◌, List, []}
 use Rattle.std.specs.Prelude.{◌∷◌, length, Option, Some, None, Result, Ok, Err}
 use Rattle.kt_text.specs.declared.reading.TheConstants.{MAX_TEXT}

@@ -1,7 +1,7 @@
 -- When a text is a scenario's.
 -- Cited by Begins, CommandLaws, CommandsRead, EntryFaults, FaultLaws, FaultShapes, Feeding, FirstFault, LineFaults,
 --   LinesRead, OtherKind, PatternLaws, Positions, Reached, ReadLaws, ScenarioRead, Shown, SlotLaws, SlotsRead,
---   StepLaws, StepsRead, Told, ToldLaws, WrittenRead and 3 more; kt_run, kt_scene.
+--   StepLaws, StepsRead, Told, ToldLaws, WrittenRead and 3 more; other crates.
 use Rattle.std.specs.Prelude.{◌≡◌, ℕ, ◌≤◌, ◌≢◌, Bool, true, false, not, List, [], ◌∷◌, ◌++◌, length, filter, codes, All}
 use Rattle.std.specs.Prelude.{Some, None}
 use Rattle.std.specs.Int.{w64}

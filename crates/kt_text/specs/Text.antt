@@ -1,7 +1,7 @@
 -- The one text of a scenario: what each step and fault line is spelled as, and the lines in their order.
 -- Cited by Begins, EntryFaults, FaultLaws, FaultShapes, Feeding, FirstFault, LineFaults, LinesRead, OtherKind,
 --   Positions, Reached, ReadLaws, ScenarioRead, ScenarioText, Shown, StepLaws, StepsRead, Told, ToldLaws, WrittenRead,
---   laws.rt, specs/Faults, specs/Scenario, writing.rt and 5 more; kt_scene.
+--   laws.rt, specs/Faults, specs/Scenario, writing.rt and 5 more; other crates.
 use Rattle.std.specs.Prelude.{ℕ, List, [], ◌∷◌, ◌++◌, map, codes, decimal}
 use Rattle.std.specs.List.{flat_map}
 use Rattle.kt_tuple.specs.Spelling.{node_text}

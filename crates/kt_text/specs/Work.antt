@@ -1,7 +1,7 @@
 -- What is done in a scene.
 -- Cited by Begins, Entries, EntryFaults, FaultLaws, FirstFault, LineFaults, LinesRead, Lowest, OtherKind, Positions,
 --   Reached, ReadLaws, ScenarioRead, Told, ToldLaws, WorkKinds, WrittenRead, draft.rt, laws.rt, reading.rt,
---   scenario.rt, specs/Faults, specs/Lines, specs/Reading and 5 more; kt_run, kt_scene.
+--   scenario.rt, specs/Faults, specs/Lines, specs/Reading and 5 more; other crates.
 use Rattle.std.specs.Prelude.{ℕ, false, List, [], codes, Option, None, Some}
 use Rattle.kt_scenario.specs.declared.faults.Fault.{Fault}
 use Rattle.kt_scenario.specs.declared.faults.FaultLine.{FaultLine}

@@ -1,5 +1,5 @@
 //! What is wrong with a scenario's text.
-//! Cited by command.rt, draft.rt, fault_line.rt, reading.rt; kt_command, kt_run, kt_scene, linda_kt.
+//! Cited by command.rt, draft.rt, fault_line.rt, reading.rt; other crates.
 
 ghost use Rattle.std.specs.Prelude.{◌≡◌};
 

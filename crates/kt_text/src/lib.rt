@@ -3,7 +3,6 @@
 //! - Contract: `read_scene` gives the scenario that the text spells (clause `read`), or the text's first fault (clause
 //!   `fault`); what `write_scene` writes is read as what was written (the law `what_is_written_is_read`).
 //! - Stands on: kt_tuple, kt_script, kt_scenario; of the kit: memchr, thiserror
-//! - Used by: kt_scene, kt_run, kt_command
 //! - Begin in: `reading.rt`, then `draft.rt`, one line after the other, and `writing.rt`.
 #![tactic(auto)]
 

@@ -1,5 +1,5 @@
 //! A scenario from its text.
-//! Cited by kt_memory_tests, kt_run, kt_scene.
+//! Cited by other crates.
 
 ghost use Rattle.std.specs.Prelude.{◌≡◌, ◌≤◌, ◌<◌, ◌+◌, ◌==◌, ℕ, List, length, position, IfSome, IfOk, IfErr, Ok, Err};
 ghost use Rattle.std.specs.Option.{option_map};

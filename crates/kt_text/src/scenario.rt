@@ -1,5 +1,5 @@
 //! What a scenario's text stands for.
-//! Cited by draft.rt, reading.rt, writing.rt; kt_memory_tests, kt_run, kt_scene.
+//! Cited by draft.rt, reading.rt, writing.rt; other crates.
 
 use kt_scenario::{Faults, Scene, Step};
 use std::alloc::Global;

@@ -1,5 +1,5 @@
 //! The text of a scenario.
-//! Cited by kt_scene.
+//! Cited by other crates.
 
 ghost use Rattle.std.specs.Prelude.{◌≡◌, ◌++◌, map, OnOk, IfOk};
 ghost use Rattle.std.specs.List.{flat_map};

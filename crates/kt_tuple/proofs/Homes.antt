@@ -1,5 +1,5 @@
 -- What matches has one list of kinds, hence one signature and one home.
--- Cited by `laws::matching_has_one_home`; kt_space.
+-- Cited by `laws::matching_has_one_home`; other crates.
 use Rattle.std.proofs.Common.{◌≡◌, ℕ, List, [], ◌∷◌, refl, ap, sym, ◌∙◌}
 use Rattle.kt_tuple.specs.declared.value.Value.{Value}
 use Rattle.kt_tuple.specs.declared.value.Kind.{Kind}

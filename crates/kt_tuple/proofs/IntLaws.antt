@@ -1,6 +1,6 @@
 -- An int that is read is spelled as its number is, and each number's spelling is read.
 -- Cited by FormalShapes, IntShapes, Ints, IntsRead, Outside, PlaceLaws, PlacesRead, Shapes, StrShapes, ValueLaws,
---   ValuesRead, WordShapes; kt_text.
+--   ValuesRead, WordShapes; other crates.
 use Rattle.std.proofs.Common.{◌≡◌, ℕ, zero, suc, ◌-◌, ◌^◌, ◌<◌, ◌≤◌, Bool, true, false, cond, ◌&&◌, eqb, leb, List, [], ◌∷◌, ◌++◌}
 use Rattle.std.proofs.Common.{length, get_or, drop, Some, None, Result, Ok, Err, refl, sym, ap, subst, ◌∙◌, arith, length-append}
 use Rattle.std.proofs.lemmas.List.{take_at, drop_at}

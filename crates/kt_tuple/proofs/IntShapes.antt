@@ -1,5 +1,5 @@
 -- The reader of ints reads the ints of the grammar.
--- Cited by Outside, PlaceShapes, WordShapes; kt_text.
+-- Cited by Outside, PlaceShapes, WordShapes; other crates.
 use Rattle.std.proofs.Common.{◌≡◌, ℕ, Bool, true, false, cond, eqb, leb, List, [], ◌∷◌, ◌++◌, Result, Ok, Err, refl, sym, ap, subst, ◌∙◌, arith}
 use Rattle.std.proofs.lemmas.Bool.{ne_eqb, eqb-true, leb-true, le-leb, and_parts, and_from}
 use Rattle.std.proofs.lemmas.List.Elements.{All-nil, All-cons, All-head, All-tail}

@@ -1,5 +1,5 @@
 -- The decimal of an int is read as that int.
--- Cited by PlacesRead, ValuesRead; kt_text.
+-- Cited by PlacesRead, ValuesRead; other crates.
 use Rattle.std.proofs.Common.{◌≡◌, ℕ, zero, suc, ◌^◌, ◌<◌, ◌≤◌, true, false, eqb, ltb, leb, List, [], ◌∷◌, ◌++◌, length, get_or, Some, Ok, refl, ap, ◌∙◌, arith}
 use Rattle.std.proofs.lemmas.Bool.{ne_eqb, le-leb, lt-ltb, and_parts, and_from}
 use Rattle.std.specs.Prelude.{ℤ, pos, negsuc, decimal}

@@ -1,5 +1,5 @@
 -- Each node has a number of its own, and is the same as itself.
--- Cited by `laws::numbers_tell_apart`; kt_ckpt, kt_core, kt_history, kt_model, kt_refinement, kt_stage.
+-- Cited by `laws::numbers_tell_apart`; other crates.
 use Rattle.std.proofs.Common.{◌≡◌, true, refl, ap, arith}
 use Rattle.kt_tuple.specs.declared.node.NodeId.{NodeId}
 use Rattle.kt_tuple.specs.declared.node.NodeId.TheVariants.{Worker, Shard}

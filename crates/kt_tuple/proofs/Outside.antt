@@ -1,5 +1,5 @@
 -- What it means for the number and the characters of a place to be out of range and too long.
--- Cited by ByShape, `laws::a_place_is_outside_or_too_long_by_its_shape`; kt_text.
+-- Cited by ByShape, `laws::a_place_is_outside_or_too_long_by_its_shape`; other crates.
 use Rattle.std.proofs.Common.{◌≡◌, ℕ, suc, ◌≤◌, ◌↔◌, true, false, eqb, ltb, List, [], ◌∷◌, ◌++◌, length, Option, Some, None, refl, sym, ap, subst, ◌∙◌, arith}
 use Rattle.std.proofs.lemmas.Bool.{ne_eqb, leb-true, le-leb, lt-ltb, and_from}
 use Rattle.std.proofs.lemmas.List.Elements.{All-head, All-tail}

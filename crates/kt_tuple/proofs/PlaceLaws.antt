@@ -1,5 +1,5 @@
 -- A place that is read is spelled so.
--- Cited by PlacesRead, Texts, `laws::a_front_read_is_spelled_so`; kt_text.
+-- Cited by PlacesRead, Texts, `laws::a_front_read_is_spelled_so`; other crates.
 use Rattle.std.proofs.Common.{◌≡◌, ℕ, Bool, true, false, cond, eqb, List, [], ◌∷◌, ◌++◌, Option, Some, None, Ok, refl, sym, ap, subst, ◌∙◌}
 use Rattle.std.specs.Prelude.{codes, nat_eq, IsSome}
 use Rattle.std.specs.Cmp.Lexicographic.{pointwise}

@@ -1,5 +1,5 @@
 -- What the readers read.
--- Cited by `reading::after_digits`; kt_text.
+-- Cited by `reading::after_digits`; other crates.
 use Rattle.std.proofs.Common.{◌≡◌, ℕ, ◌+◌, suc, Bool, true, false, not, cond, ltb, List, [], ◌∷◌, length, drop, Some, None, refl, sym, ap, ◌∙◌, arith}
 use Rattle.std.proofs.Math.ListN.{drop_of_length-le}
 use Rattle.std.proofs.lemmas.Bool.{ltb-false}

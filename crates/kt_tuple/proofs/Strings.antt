@@ -1,5 +1,5 @@
 -- The tests of a string's characters.
--- Cited by Ints, ValueLaws, ValuesRead, `reading::str_with`; kt_ckpt, kt_text.
+-- Cited by Ints, ValueLaws, ValuesRead, `reading::str_with`; other crates.
 use Rattle.std.proofs.Common.{◌≡◌, ℕ, Bool, true, false, cond, ◌&&◌, List, length, Some, None, refl, leb}
 use Rattle.std.specs.List.{list_all}
 use Rattle.std.specs.Cmp.Derive.{both_true}

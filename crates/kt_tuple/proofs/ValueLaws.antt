@@ -1,6 +1,6 @@
 -- A value that is read is spelled so.
 -- Cited by FormalShapes, Making, Outside, PlaceLaws, StrShapes, TextShapes, TextStops, Texts, ValuesRead, Wholes,
---   WordShapes, `laws::a_front_read_is_spelled_so`; kt_text.
+--   WordShapes, `laws::a_front_read_is_spelled_so`; other crates.
 use Rattle.std.proofs.Common.{◌≡◌, ℕ, ◌-◌, Bool, true, false, cond, ◌&&◌, eqb, leb, List, [], ◌∷◌, ◌++◌, length, Option}
 use Rattle.std.proofs.Common.{Some, None, Result, Ok, Err, refl, sym, ap, subst, ◌∙◌, append_assoc, arith, length-append}
 use Rattle.std.proofs.lemmas.List.{take_at}

@@ -1,5 +1,5 @@
 -- The text of a value is read as that value.
--- Cited by PlacesRead, Texts, `laws::a_front_spelled_is_read`; kt_text.
+-- Cited by PlacesRead, Texts, `laws::a_front_spelled_is_read`; other crates.
 use Rattle.std.proofs.Common.{◌≡◌, ℕ, Bool, true, false, List, [], ◌∷◌, ◌++◌, length, Some, Ok, refl, sym, ap, ◌∙◌, append_assoc}
 use Rattle.std.proofs.lemmas.Bool.{le-leb}
 use Rattle.std.specs.Prelude.{nat_le, is_some}

@@ -1,5 +1,5 @@
 -- The text of a whole tuple or template, for each kind of place.
--- Cited by TextStops, Texts, WholesRead; kt_text.
+-- Cited by TextStops, Texts, WholesRead; other crates.
 use Rattle.std.proofs.Common.{◌≡◌, ℕ, zero, suc, ◌+◌, ◌-◌, ◌<◌, ◌≤◌, Bool, true, false, eqb, List, [], ◌∷◌, ◌++◌}
 use Rattle.std.proofs.Common.{length, map, Option, Some, None, Ok, refl, sym, ap, subst, ◌∙◌, append_assoc, arith}
 use Rattle.std.proofs.lemmas.Bool.{eqb-true}

@@ -1,6 +1,5 @@
 -- When two values or places are one, as tests that compute, and that these tests decide equality.
--- Cited by equality.rt, op.rt, specs/Matching, specs/Op, template.rt, tuple.rt, value.rt; kt_ckpt, kt_history,
---   kt_model, kt_resume, kt_script, kt_space.
+-- Cited by equality.rt, op.rt, specs/Matching, specs/Op, template.rt, tuple.rt, value.rt; other crates.
 use Rattle.std.specs.Prelude.{◌≡◌, ℕ, List, Bool, true, false, nat_eq, refl}
 use Rattle.std.specs.Bool.{Decides}
 use Rattle.std.specs.Cmp.{IsEquivalence, unsigned_Decides, signed_Decides}

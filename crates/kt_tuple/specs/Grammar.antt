@@ -1,7 +1,7 @@
 -- The shape of the text of a tuple and of a template: a grammar by cases on the bytes, that knows no reader.
 -- Cited by ByShape, Exact, Explained, FormalShapes, IntShapes, Layouts, Only, Outside, PlaceShapes, Rows, Shapes,
 --   StrShapes, TextFaults, TextShapes, laws.rt, parsing.rt, `laws::a_syntax_fault_is_at_the_longest_front`,
---   `laws::a_text_of_the_shape_has_these_faults`; kt_text.
+--   `laws::a_text_of_the_shape_has_these_faults`; other crates.
 use Rattle.std.specs.Prelude.{◌≡◌, ◌≢◌, ◌<◌, ◌≤◌, ◌⊎◌, ℕ, suc, List, [], ◌∷◌, ◌++◌, length, take, codes, All}
 use Rattle.std.specs.List.{flat_map}
 use Rattle.std.specs.Int.{w64}

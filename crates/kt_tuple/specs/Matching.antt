@@ -1,7 +1,6 @@
 -- When a tuple fits a template (Gelernter, "Generative Communication in Linda", section 2).
 -- Cited by Actuals, Backwards, Homes, Texts, Wholes, WholesRead, equality.rt, laws.rt, specs/Op, specs/Space,
---   template.rt, tuple.rt, `template::all_admit`, `template::each_admits`; kt_ckpt, kt_history, kt_logs, kt_model,
---   kt_resume, kt_run, kt_script, kt_space, kt_text.
+--   template.rt, tuple.rt, `template::all_admit`, `template::each_admits`; other crates.
 use Rattle.std.specs.Prelude.{◌≡◌, ◌≤◌, ◌↔◌, Bool, false, List, length}
 use Rattle.std.specs.Bool.{Decides}
 use Rattle.std.proofs.Common.{sym, ap}

@@ -1,6 +1,5 @@
 -- The names of nodes: their numbers, their order, and the lists of those that a scene can have.
--- Cited by Nodes, equality.rt, laws.rt, node.rt; kt_ckpt, kt_core, kt_history, kt_logs, kt_model, kt_node,
---   kt_refinement, kt_resume, kt_run, kt_scenario, kt_sql, kt_sql_tables, kt_stage, kt_state, kt_store, kt_vote.
+-- Cited by Nodes, equality.rt, laws.rt, node.rt; other crates.
 use Rattle.std.specs.Prelude.{◌≡◌, ℕ, ◌+◌, ◌*◌, Bool, true, false, nat_eq, nat_lt, List, ◌++◌, map}
 use Rattle.std.specs.Bool.{Decides}
 use Rattle.std.specs.List.{range_with_len}

@@ -1,5 +1,5 @@
 -- When two operations, answers or services are one, as tests that compute.
--- Cited by equality.rt, op.rt; kt_history, kt_logs, kt_model, kt_resume, kt_shard, kt_stage, kt_worker.
+-- Cited by equality.rt, op.rt; other crates.
 use Rattle.std.specs.Prelude.{◌≡◌, ℕ, Bool, true, false, refl, ◌&&◌, nat_eq}
 use Rattle.std.specs.Cmp.{unsigned_Decides}
 use Rattle.std.proofs.lemmas.Bool.{and_parts, and_from}

@@ -2,7 +2,7 @@
 -- stands in front and the bytes after it, or the bytes from the first one with which it can't go on.
 -- Cited by ByShape, Exact, Explained, Faults, Findings, FormalShapes, Fronts, IntLaws, IntShapes, Ints, IntsRead,
 --   Layouts, Made, Making, Outside, PlaceLaws, PlaceShapes, Places, PlacesRead, Readers, Rows, Shapes, StrLaws,
---   StrShapes and 24 more; kt_ckpt, kt_text.
+--   StrShapes and 24 more; other crates.
 use Rattle.std.specs.Char.{is_ascii_digit}
 use Rattle.std.specs.Int.{is_in_range}
 use Rattle.std.specs.Cmp.Lexicographic.{pointwise}

@@ -1,6 +1,6 @@
 -- The kinds of a tuple, a template or an operation, as one number, and the shard that is their home.
 -- Cited by Homes, Signatures, laws.rt, op.rt, signature.rt, template.rt, tuple.rt, `template::signature_of`,
---   `tuple::signature_of`; kt_logs, kt_model, kt_node, kt_resume, kt_script, kt_space.
+--   `tuple::signature_of`; other crates.
 use Rattle.std.specs.Prelude.{ℕ, ◌+◌, ◌*◌, ◌%◌, List, map, fold}
 use Rattle.kt_tuple.specs.declared.value.Value.{Value}
 use Rattle.kt_tuple.specs.declared.value.Kind.{Kind}

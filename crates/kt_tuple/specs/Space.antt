@@ -1,6 +1,6 @@
 -- One sequential tuple space (Gelernter, "Generative Communication in Linda").
 -- The space is a multiset of tuples: a list up to permutation.
--- Cited by kt_history, kt_logs, kt_model, kt_resume, kt_scene, kt_shard, kt_space.
+-- Cited by other crates.
 use Rattle.std.specs.Prelude.{List, [], ◌∷◌, Contains, IsPermutation}
 use Rattle.kt_tuple.specs.declared.tuple.Tuple.{Tuple}
 use Rattle.kt_tuple.specs.declared.template.Template.{Template}

@@ -1,7 +1,7 @@
 -- The one text of each value, tuple, template, operation, answer, node and service.
 -- Cited by PlaceLaws, PlacesRead, Separated, StrLaws, StrsRead, Texts, ValueLaws, ValuesRead, Wholes, WholesRead,
 --   laws.rt, parsing.rt, writing.rt, `Template::write_to`, `Tuple::write_to`, `writing::push_in_parentheses`,
---   `writing::push_string`; kt_scene, kt_script, kt_text.
+--   `writing::push_string`; other crates.
 use Rattle.std.specs.Prelude.{ℕ, true, false, ◌==◌, ◌||◌, if◌then◌else◌, List, [], ◌∷◌, ◌++◌, codes, decimal, map}
 use Rattle.std.specs.Fmt.{signed_decimal}
 use Rattle.std.specs.List.{flat_map}

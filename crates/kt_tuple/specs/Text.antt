@@ -1,5 +1,5 @@
 -- What a string may hold.
--- Cited by Strings, ValuesRead, specs/Grammar, specs/Valid, string.rt; kt_ckpt.
+-- Cited by Strings, ValuesRead, specs/Grammar, specs/Valid, string.rt; other crates.
 use Rattle.std.specs.Prelude.{ℕ, ◌≤◌, List, length, All}
 use Rattle.kt_tuple.specs.declared.string.TheConstants.{MAX_CHARACTERS}
 

@@ -1,6 +1,6 @@
 -- Which values and places a program can hold. In the definitions an int is any number, and a str any characters.
 -- Cited by PlaceLaws, PlacesRead, Texts, ValueLaws, ValuesRead, laws.rt, writing.rt, `Template::write_to`,
---   `Tuple::write_to`; kt_ckpt, kt_text.
+--   `Tuple::write_to`; other crates.
 use Rattle.std.specs.Int.{w64}
 use Rattle.std.specs.Int.RustNames.{FitsSigned}
 use Rattle.kt_tuple.specs.declared.value.Value.{Value}

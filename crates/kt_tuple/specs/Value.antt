@@ -1,5 +1,5 @@
 -- What kind of value a value is.
--- Cited by Homes, specs/Matching, specs/Signature, value.rt; kt_logs, kt_model, kt_script.
+-- Cited by Homes, specs/Matching, specs/Signature, value.rt; other crates.
 use Rattle.kt_tuple.specs.declared.value.Value.{Value}
 use Rattle.kt_tuple.specs.declared.value.Value.TheVariants.{Int, Str, Bool as Truth}
 use Rattle.kt_tuple.specs.declared.value.Kind.{Kind}

@@ -1,5 +1,5 @@
 //! Copies of lists, each with memory of its own for the list.
-//! Cited by kt_ckpt, kt_core, kt_script, kt_state.
+//! Cited by other crates.
 
 ghost use Rattle.std.specs.Prelude.{◌≡◌, IfOk};
 

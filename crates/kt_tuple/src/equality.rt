@@ -1,5 +1,5 @@
 //! That `==` is equality, said once for all types.
-//! Cited by kt_history, kt_script; whoever calls the trait `Equality`.
+//! Cited by other crates; whoever calls the trait `Equality`.
 
 ghost use Rattle.std.specs.Prelude.{◌≡◌};
 ghost use Rattle.std.specs.Bool.{Decides};

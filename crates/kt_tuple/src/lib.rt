@@ -3,9 +3,6 @@
 //! - Contract: a template matches a tuple exactly by the definition (`Template::matches`, clause `meaning`). A text is
 //!   read as what it spells, or refused with its lowest fault (`Tuple::parse`, clauses `spelling` and `fault`).
 //! - Stands on: none; of the kit: thiserror, itoa, arrayvec
-//! - Used by: kt_script, kt_space, kt_link, kt_shard, kt_worker, kt_vote, kt_history, kt_scenario, kt_text, kt_ckpt,
-//!   kt_store, kt_sql_tables, kt_sql, kt_logs, kt_state, kt_node, kt_model, kt_resume, kt_refinement, kt_core,
-//!   kt_scene, kt_stage, kt_run, linda_kt, kt_example, kt_memory_tests
 //! - Begin in: `template.rt`, which has the matching, then `op.rt` for what is asked and answered. `parsing.rt` and
 //!   `writing.rt` have the texts.
 #![tactic(auto)]

@@ -1,6 +1,5 @@
 //! The names of nodes, and their order: first the workers, then the shards, each by their numbers.
-//! Cited by equality.rt, writing.rt; kt_ckpt, kt_core, kt_history, kt_link, kt_memory_tests, kt_node, kt_resume,
-//!   kt_scenario, kt_shard, kt_sql, kt_sql_tables, kt_stage, kt_state, kt_store, kt_text, kt_vote, linda_kt.
+//! Cited by equality.rt, writing.rt; other crates.
 
 ghost use Rattle.std.specs.Prelude.{◌≡◌, ◌<◌};
 

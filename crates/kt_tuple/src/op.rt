@@ -1,6 +1,5 @@
 //! Operations on the space, and what they are answered.
-//! Cited by equality.rt, service.rt, writing.rt; kt_ckpt, kt_history, kt_node, kt_resume, kt_script, kt_shard,
-//!   kt_stage, kt_state, kt_worker.
+//! Cited by equality.rt, service.rt, writing.rt; other crates.
 
 ghost use Rattle.std.specs.Prelude.{◌≡◌, ◌↔◌, IsTrue, IfOk};
 ghost use Rattle.kt_tuple.specs.Signature.{kinds_of_op, signature_of};

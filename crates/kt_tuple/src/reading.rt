@@ -2,7 +2,7 @@
 //!
 //! A reader is given the bytes that are left. It answers the spelling that it read and the bytes after
 //! it, or the bytes from the first one that no text of its kind goes on with.
-//! Cited by item.rt, parsing.rt; kt_text.
+//! Cited by item.rt, parsing.rt; other crates.
 
 ghost use Rattle.std.specs.Prelude.{◌≡◌, ◌≤◌, ℕ, List, length, take, drop, false, position, IfSome};
 ghost use Rattle.std.specs.Option.{option_map};

@@ -1,5 +1,5 @@
 //! Services: requests that were served.
-//! Cited by equality.rt, writing.rt; kt_history, kt_scene.
+//! Cited by equality.rt, writing.rt; other crates.
 
 use crate::op::{Answer, Op};
 

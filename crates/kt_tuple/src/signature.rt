@@ -1,5 +1,5 @@
 //! The kinds of a list of places as one number, and the shard that is their home.
-//! Cited by equality.rt, op.rt, template.rt, tuple.rt; kt_node, kt_resume, kt_space, kt_stage.
+//! Cited by equality.rt, op.rt, template.rt, tuple.rt; other crates.
 
 ghost use Rattle.std.specs.Prelude.{◌≡◌, ◌+◌, ◌*◌, ◌%◌, ◌≤◌, ◌<◌, ◌^◌};
 ghost use Rattle.kt_tuple.specs.Signature.{code_of};

@@ -1,5 +1,5 @@
 //! Strings: short texts of printable characters.
-//! Cited by equality.rt, reading.rt, value.rt, writing.rt; kt_ckpt, kt_script, kt_space.
+//! Cited by equality.rt, reading.rt, value.rt, writing.rt; other crates.
 
 ghost use Rattle.std.specs.Prelude.{◌≡◌, ◌↔◌, ℕ, List, ◌≤◌, length, IsSome, IfSome, IsTrue};
 ghost use Rattle.kt_tuple.specs.Text.{IsText, ArePrintable};

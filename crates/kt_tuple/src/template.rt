@@ -1,6 +1,5 @@
 //! Templates, and which tuples they match.
-//! Cited by equality.rt, item.rt, op.rt, parsing.rt, reading.rt, writing.rt; kt_ckpt, kt_history, kt_resume,
-//!   kt_script, kt_space.
+//! Cited by equality.rt, item.rt, op.rt, parsing.rt, reading.rt, writing.rt; other crates.
 
 ghost use Rattle.std.specs.Prelude.{◌≡◌, ◌↔◌, IsTrue, IsSome, IfSome, IfOk, map};
 ghost use Rattle.kt_tuple.specs.declared.template.Place.TheVariants.{Actual};

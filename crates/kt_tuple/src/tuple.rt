@@ -1,6 +1,5 @@
 //! Tuples of values.
-//! Cited by copying.rt, equality.rt, op.rt, parsing.rt, template.rt, writing.rt; kt_ckpt, kt_core, kt_history,
-//!   kt_memory_tests, kt_resume, kt_scene, kt_script, kt_shard, kt_space, kt_state, kt_text.
+//! Cited by copying.rt, equality.rt, op.rt, parsing.rt, template.rt, writing.rt; other crates.
 
 ghost use Rattle.std.specs.Prelude.{◌≡◌, ◌↔◌, IsTrue, IsSome, IfSome, IfOk};
 ghost use Rattle.kt_tuple.specs.Matching.{HasArity};

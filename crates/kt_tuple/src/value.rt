@@ -1,7 +1,6 @@
 //! Values and their kinds.
 //! Cited by copying.rt, equality.rt, item.rt, parsing.rt, reading.rt, signature.rt, template.rt, tuple.rt,
-//!   writing.rt; kt_ckpt, kt_memory_tests, kt_resume, kt_scene, kt_script, kt_shard, kt_space, kt_state, kt_store,
-//!   kt_text, kt_worker.
+//!   writing.rt; other crates.
 
 ghost use Rattle.std.specs.Prelude.{◌≡◌, ◌↔◌, IsTrue};
 ghost use Rattle.kt_tuple.specs.Equality.{value_eq};

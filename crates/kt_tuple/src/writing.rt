@@ -1,5 +1,5 @@
 //! The one text of each value, tuple, template, operation, answer, node and service, written at the end of bytes.
-//! Cited by kt_ckpt, kt_scene, kt_script, kt_text; whoever calls the trait `Spelled`.
+//! Cited by other crates; whoever calls the trait `Spelled`.
 
 ghost use Rattle.std.specs.Prelude.{◌≡◌, ◌++◌, ℕ, List, take, map, decimal, OnOk, OnErr, None, All, ⊤};
 ghost use Rattle.std.specs.Fmt.{signed_decimal};

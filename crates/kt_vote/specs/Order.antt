@@ -1,5 +1,5 @@
 -- The order of nodes: first the workers, then the shards, each by their numbers.
--- Cited by Asked, Before, ballot.rt, laws.rt, specs/auxiliary/Asked, `Ballot::ask`; kt_node.
+-- Cited by Asked, Before, ballot.rt, laws.rt, specs/auxiliary/Asked, `Ballot::ask`; other crates.
 use Rattle.std.specs.Prelude.{List, AllPairs, IsTrue}
 use Rattle.kt_tuple.specs.declared.node.NodeId.{NodeId}
 use Rattle.kt_tuple.specs.Node.{is_before}

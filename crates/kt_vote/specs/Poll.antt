@@ -1,6 +1,5 @@
 -- The abstract state of a ballot, and what asking and a vote make of it.
--- Cited by After, Asked, Told, ballot.rt, laws.rt, specs/Counting, `Ballot::ask`, `Ballot::count_vote`; kt_model,
---   kt_node, kt_refinement, kt_stage, kt_state.
+-- Cited by After, Asked, Told, ballot.rt, laws.rt, specs/Counting, `Ballot::ask`, `Ballot::count_vote`; other crates.
 use Rattle.std.specs.Prelude.{◌≡◌, ℕ, ◌==◌, Bool, true, false, not, ◌&&◌, ◌||◌, if◌then◌else◌}
 use Rattle.std.specs.Prelude.{List, [], ◌∷◌, ◌++◌, filter, Contains, Option, Some, None}
 use Rattle.std.specs.List.{list_any}

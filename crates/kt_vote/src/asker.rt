@@ -1,5 +1,5 @@
 //! Who asked for a vote.
-//! Cited by ballot.rt; kt_node, kt_state.
+//! Cited by ballot.rt; other crates.
 
 use kt_tuple::NodeId;
 

@@ -1,5 +1,5 @@
 //! Ballots: whom a node asked, and the votes that came.
-//! Cited by kt_core, kt_node, kt_stage, kt_state.
+//! Cited by other crates.
 
 ghost use Rattle.std.specs.Prelude.{◌≡◌, ◌↔◌, ◌∷◌, ◌++◌, [], if◌then◌else◌, List, All, Any, Contains, filter, not};
 ghost use Rattle.std.specs.Prelude.{None, Some, true, false, IsTrue, IsSome, IfOk, OnOk, OnErr};

@@ -3,7 +3,6 @@
 //! - Contract: whatever votes come, of each node that was asked its first vote for this ballot is counted, and no other
 //!   (`Ballot::count_vote`, clauses `counts` and `after`).
 //! - Stands on: kt_tuple
-//! - Used by: kt_state, kt_node, kt_model, kt_refinement, kt_core, kt_stage
 //! - Begin in: `ballot.rt`, then `vote.rt` for what comes in and `asker.rt` for whom the node's own vote goes to.
 #![tactic(auto)]
 

@@ -1,5 +1,5 @@
 //! Votes of nodes.
-//! Cited by ballot.rt; kt_node, kt_state.
+//! Cited by ballot.rt; other crates.
 
 /// A node's vote in an instance: whether it agrees.
 #[derive(Clone, Copy, Debug, PartialEq, Eq)]

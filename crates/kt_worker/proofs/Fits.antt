@@ -1,5 +1,5 @@
 -- A worker that stands as its answers say fits its script.
--- Cited by `laws::parts_of_a_worker_make_it_again`; kt_model.
+-- Cited by `laws::parts_of_a_worker_make_it_again`; other crates.
 use Rattle.std.proofs.Common.{◌≡◌, ◌≤◌, Bool, true, false, List, length, Option, None, Some, refl, sym, subst}
 use Rattle.std.specs.Prelude.{nat_lt, not, if◌then◌else◌}
 use Rattle.std.proofs.lemmas.Bool.{le-ltb}

@@ -1,6 +1,6 @@
 -- A worker that stands as after some answers asks what its script asks then, and stands as after one answer more
 -- once it has heard it.
--- Cited by `Worker::has_next`, `Worker::hear`, `Worker::is_done`, `Worker::issue`; kt_model.
+-- Cited by `Worker::has_next`, `Worker::hear`, `Worker::is_done`, `Worker::issue`; other crates.
 use Rattle.std.proofs.Common.{rules, ◌≡◌, ℕ, suc, ◌+◌, Bool, true, false, List, [], ◌∷◌, ◌++◌, length, fold, Option}
 use Rattle.std.proofs.Common.{None, Some, refl, sym, ap, ◌∙◌, subst, eqb-true, eq-eqb, length-append, arith}
 use Rattle.std.specs.Prelude.{IfSome, ◌||◌, ◌↔◌, is_some, not, IsTrue, ◌==◌}

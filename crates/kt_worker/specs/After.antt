@@ -1,5 +1,5 @@
 -- When a worker stands as its answers so far say.
--- Cited by Fits, Requests, laws.rt, worker.rt; kt_model, kt_resume.
+-- Cited by Fits, Requests, laws.rt, worker.rt; other crates.
 use Rattle.std.specs.Prelude.{◌≡◌, ℕ, suc, List, length, Option, None, Some, IfSome}
 use Rattle.kt_tuple.specs.declared.op.Op.{Op}
 use Rattle.kt_tuple.specs.declared.op.Answer.{Answer}

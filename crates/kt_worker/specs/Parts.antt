@@ -1,5 +1,5 @@
 -- What is read of a worker, and which parts make one.
--- Cited by Fits, laws.rt, worker.rt; kt_model, kt_state.
+-- Cited by Fits, laws.rt, worker.rt; other crates.
 use Rattle.std.specs.Prelude.{ℕ, nat_lt, Bool, not, if◌then◌else◌, List, length, Option, None, Some}
 use Rattle.kt_tuple.specs.declared.op.Op.{Op}
 use Rattle.kt_tuple.specs.declared.value.Value.{Value}

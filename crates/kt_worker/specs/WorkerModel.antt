@@ -1,6 +1,6 @@
 -- Where a worker stands, and what its requests and their answers make of that.
 -- Cited by Fits, Later, Requests, laws.rt, specs/After, specs/Parts, worker.rt, `Worker::has_next`, `Worker::hear`,
---   `Worker::is_done`, `Worker::issue`, `Worker::next`; kt_model, kt_node, kt_resume, kt_stage, kt_state.
+--   `Worker::is_done`, `Worker::issue`, `Worker::next`; other crates.
 use Rattle.std.specs.Prelude.{ℕ, ◌+◌, ◌==◌, Bool, false, ◌&&◌, ◌||◌, List, Option, None, Some, is_some}
 use Rattle.std.specs.Option.{option_map}
 use Rattle.kt_tuple.specs.declared.op.Op.{Op}

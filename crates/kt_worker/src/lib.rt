@@ -3,7 +3,6 @@
 //! - Contract: after any answers the next request is what the script asks then, with the next number (`Worker::issue`,
 //!   clause `asks`). Just the answer to the unanswered request is accepted (`Worker::hear`, clause `accepts`).
 //! - Stands on: kt_tuple, kt_script; of the kit: thiserror
-//! - Used by: kt_logs, kt_state, kt_node, kt_model, kt_resume, kt_refinement, kt_core, kt_stage
 //! - Begin in: `worker.rt`. `misfit.rt` says why stored parts make no worker.
 #![tactic(auto)]
 

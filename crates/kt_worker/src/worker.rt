@@ -1,5 +1,5 @@
 //! Workers: their numbered requests, at most one unanswered.
-//! Cited by kt_core, kt_node, kt_resume, kt_stage, kt_state.
+//! Cited by other crates.
 
 ghost use Rattle.std.specs.Prelude.{◌≡◌, ◌↔◌, List, suc, length, [], ◌∷◌, ◌++◌, if◌then◌else◌, ◌+◌, ◌<◌};
 ghost use Rattle.std.specs.Prelude.{◌≤◌, Some, None, not, is_some, IsTrue, IfOk, IfErr, IfSome, OnOk, OnErr};

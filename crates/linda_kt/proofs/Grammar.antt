@@ -197,25 +197,28 @@ fault_is a words m o p is_resumed store same has none name rows some flag file =
     ∙ ap (λ (b : Bool). if b && not (is_some (first_of (codes "store") found)) then MissingRequiredArgument ∷ [] else []) (sym flag)
     ∙ ap (λ (b : Bool). if is_resumed && not b then MissingRequiredArgument ∷ [] else []) of_file
 
--- the command and the file that were met are those that the words name
+-- the command, the file and the flag that were met are those that the words name
 pub asked_is : (a : App) (words : List Text) (m : ArgMatches) (o : Option Lent) (p : Lent) (command : Command) (store : Option (Bor Text))
-    → a ≡ command_line_app → HasMatchesOf a words m → option_map (λ (q : Lent). q.0.now) o ≡ subcommand_name_of m
+    (is_explained : Bool) → a ≡ command_line_app → HasMatchesOf a words m → option_map (λ (q : Lent). q.0.now) o ≡ subcommand_name_of m
     → option_map (λ (q : Lent). rows_of (found_of q.1.now)) o ≡ option_map (λ p. p.1) (subcommand_rows_of m) → o ≡ Some p
     → is_word p.0.now (codes "migrate") ≡ false
     → command_of p.0.now (has_flag (codes "resume") (rows_of (found_of p.1.now))) (has_flag (codes "journal") (rows_of (found_of p.1.now)))
     ≡ Some command
     → option_map (λ (s : Bor Text). s.now) store ≡ first_value (found_of p.1.now) (codes "store")
-    → asked_by words ≡ Some (Makes command (option_map (λ (s : Bor Text). s.now) store))
-asked_is a words m o p command store same has name rows some other is file =
+    → is_explained ≡ has_flag (codes "explain") (rows_of (found_of p.1.now))
+    → asked_by words ≡ Some (Makes command (option_map (λ (s : Bor Text). s.now) store) is_explained)
+asked_is a words m o p command store is_explained same has name rows some other is file explained =
     let found : List Row = rows_of (found_of p.1.now) in
     let of_file : first_of (codes "store") found ≡ option_map (λ (s : Bor Text). s.now) store =
     sym (file ∙ first_value-rows (found_of p.1.now) (codes "store")) in
     let named : Option Command = command_of p.0.now (has_flag (codes "resume") found) (has_flag (codes "journal") found) in
-    let made : Option Asked = option_map (λ (c : Command). Makes c (first_of (codes "store") found)) named in
+    let flag : Bool = has_flag (codes "explain") found in
+    let made : Option Asked = option_map (λ (c : Command). Makes c (first_of (codes "store") found) flag) named in
     ap (option_and_then request_of) (met_is a words m o p same has name rows some)
     ∙ ap (λ (b : Bool). if b then Some (Carries (required_text (first_of (codes "store") found))) else made) other
-    ∙ ap (option_map (λ (c : Command). Makes c (first_of (codes "store") found))) is
-    ∙ ap (λ (f : Option Text). Some (Makes command f)) of_file
+    ∙ ap (option_map (λ (c : Command). Makes c (first_of (codes "store") found) flag)) is
+    ∙ ap (λ (f : Option Text). Some (Makes command f flag)) of_file
+    ∙ ap (λ (b : Bool). Some (Makes command (option_map (λ (s : Bor Text). s.now) store) b)) (sym explained)
 
 -- the text of an option, or none
 text_or : (o : Option (Bor Text)) (none text : Bor Text) → text ≡ unwrap_or o none → none.now ≡ []
@@ -235,7 +238,8 @@ carried_is a words m o p store none text same has name rows some this file is em
     let of_file : first_of (codes "store") found ≡ option_map (λ (s : Bor Text). s.now) store =
     sym (file ∙ first_value-rows (found_of p.1.now) (codes "store")) in
     let named : Option Command = command_of p.0.now (has_flag (codes "resume") found) (has_flag (codes "journal") found) in
-    let made : Option Asked = option_map (λ (c : Command). Makes c (first_of (codes "store") found)) named in
+    let flag : Bool = has_flag (codes "explain") found in
+    let made : Option Asked = option_map (λ (c : Command). Makes c (first_of (codes "store") found) flag) named in
     ap (option_and_then request_of) (met_is a words m o p same has name rows some)
     ∙ ap (λ (b : Bool). if b then Some (Carries (required_text (first_of (codes "store") found))) else made) this
     ∙ ap (λ (f : Option Text). Some (Carries (required_text f))) of_file

@@ -24,15 +24,19 @@ program_app = on_top (λ s. record s { has_version = true }) (new_app (codes "li
 abbrev pub store_rule : Rule
 store_rule = record (new_rule (codes "store")) { long = Some (codes "store"); value_names = 1 }
 
+-- the flag `--explain`
+abbrev pub explain_rule : Rule
+explain_rule = record (new_rule (codes "explain")) { long = Some (codes "explain"); action = Some SetTrue }
+
 abbrev pub replay_shape : Shape
-replay_shape = record (new_shape (codes "replay")) { rules = store_rule ∷ [] }
+replay_shape = record (new_shape (codes "replay")) { rules = store_rule ∷ explain_rule ∷ [] }
 
 -- the option `--store` where it must stand
 abbrev pub kept_store_rule : Rule
 kept_store_rule = record store_rule { required = true }
 
 abbrev pub resume_shape : Shape
-resume_shape = record (new_shape (codes "resume")) { rules = kept_store_rule ∷ [] }
+resume_shape = record (new_shape (codes "resume")) { rules = kept_store_rule ∷ explain_rule ∷ [] }
 
 -- the flag `--journal`
 abbrev pub journal_rule : Rule
@@ -43,7 +47,9 @@ abbrev pub resume_rule : Rule
 resume_rule = record (new_rule (codes "resume")) { long = Some (codes "resume"); action = Some SetTrue }
 
 abbrev pub run_shape : Shape
-run_shape = record (new_shape (codes "run")) { rules = store_rule ∷ journal_rule ∷ resume_rule ∷ [] }
+run_shape = record (new_shape (codes "run")) {
+  rules = store_rule ∷ journal_rule ∷ resume_rule ∷ explain_rule ∷ [];
+}
 
 -- the option `--store` of a file that is carried over, where it must stand too
 abbrev pub old_store_rule : Rule
@@ -82,11 +88,12 @@ has_flag flag rows = is_true (first_of flag rows)
 abbrev pub required_text : Option Text → Text
 required_text o = unwrap_or o []
 
--- what a subcommand and its words ask: a command, and the file of its store; or the file that is to be carried over
+-- what a subcommand and its words ask: a command, the file of its store, and whether its fault is explained; or the
+-- file that is to be carried over
 abbrev pub request_of : Text × List Row → Option Asked
 request_of p =
     if is_word p.0 (codes "migrate") then Some (Carries (required_text (first_of (codes "store") p.1)))
-    else option_map (λ c. Makes c (first_of (codes "store") p.1))
+    else option_map (λ c. Makes c (first_of (codes "store") p.1) (has_flag (codes "explain") p.1))
     (command_of p.0 (has_flag (codes "resume") p.1) (has_flag (codes "journal") p.1))
 
 -- what the words ask, by the rules of `clap`
@@ -120,34 +127,34 @@ AreWrong words = (words_fault words ≢ []) × (AskForHelp words → ⊥)
 
 -- `replay` has no fault and names the command, and no file
 pub replay_passes : (words_fault (codes "replay" ∷ []) ≡ [])
-    × (asked_by (codes "replay" ∷ []) ≡ Some (Makes (Replay Open) None))
+    × (asked_by (codes "replay" ∷ []) ≡ Some (Makes (Replay Open) None false))
 unfolding clap_on_literals
 replay_passes = (refl, refl)
 
 -- a file is named behind `--store`, as a word of its own or behind `=`
 pub store_passes : (words_fault (codes "replay" ∷ codes "--store" ∷ codes "a.db" ∷ []) ≡ [])
     × (asked_by (codes "replay" ∷ codes "--store" ∷ codes "a.db" ∷ [])
-    ≡ Some (Makes (Replay Open) (Some (codes "a.db"))))
+    ≡ Some (Makes (Replay Open) (Some (codes "a.db")) false))
     × (words_fault (codes "replay" ∷ codes "--store=a.db" ∷ []) ≡ [])
-    × (asked_by (codes "replay" ∷ codes "--store=a.db" ∷ []) ≡ Some (Makes (Replay Open) (Some (codes "a.db"))))
+    × (asked_by (codes "replay" ∷ codes "--store=a.db" ∷ []) ≡ Some (Makes (Replay Open) (Some (codes "a.db")) false))
 unfolding clap_on_literals
 store_passes = (refl, refl, refl, refl)
 
 -- `run` has no fault either, with its flag or without it, and with a file
 pub run_passes : (words_fault (codes "run" ∷ []) ≡ [])
-    × (asked_by (codes "run" ∷ []) ≡ Some (Makes (Run Open outputs.Report) None))
+    × (asked_by (codes "run" ∷ []) ≡ Some (Makes (Run Open outputs.Report) None false))
     × (words_fault (codes "run" ∷ codes "--journal" ∷ []) ≡ [])
-    × (asked_by (codes "run" ∷ codes "--journal" ∷ []) ≡ Some (Makes (Run Open outputs.Journal) None))
+    × (asked_by (codes "run" ∷ codes "--journal" ∷ []) ≡ Some (Makes (Run Open outputs.Journal) None false))
     × (words_fault (codes "run" ∷ codes "--store" ∷ codes "a.db" ∷ codes "--journal" ∷ []) ≡ [])
     × (asked_by (codes "run" ∷ codes "--store" ∷ codes "a.db" ∷ codes "--journal" ∷ [])
-    ≡ Some (Makes (Run Open outputs.Journal) (Some (codes "a.db"))))
+    ≡ Some (Makes (Run Open outputs.Journal) (Some (codes "a.db")) false))
 unfolding clap_on_literals
 run_passes = (refl, refl, refl, refl, refl, refl)
 
 -- `resume` has no fault with its file, which it names, and wants it
 pub resume_passes : (words_fault (codes "resume" ∷ codes "--store" ∷ codes "a.db" ∷ []) ≡ [])
     × (asked_by (codes "resume" ∷ codes "--store" ∷ codes "a.db" ∷ [])
-    ≡ Some (Makes (Replay Resume) (Some (codes "a.db"))))
+    ≡ Some (Makes (Replay Resume) (Some (codes "a.db")) false))
 unfolding clap_on_literals
 resume_passes = (refl, refl)
 
@@ -158,15 +165,25 @@ resume_wants_a_file = refl
 -- so does a run that goes on from a file, with its journal or without
 pub resumed_run_passes : (words_fault (codes "run" ∷ codes "--resume" ∷ codes "--store" ∷ codes "a.db" ∷ []) ≡ [])
     × (asked_by (codes "run" ∷ codes "--resume" ∷ codes "--store" ∷ codes "a.db" ∷ [])
-    ≡ Some (Makes (Run Resume outputs.Report) (Some (codes "a.db"))))
+    ≡ Some (Makes (Run Resume outputs.Report) (Some (codes "a.db")) false))
     × (asked_by (codes "run" ∷ codes "--store" ∷ codes "a.db" ∷ codes "--journal" ∷ codes "--resume" ∷ [])
-    ≡ Some (Makes (Run Resume outputs.Journal) (Some (codes "a.db"))))
+    ≡ Some (Makes (Run Resume outputs.Journal) (Some (codes "a.db")) false))
 unfolding clap_on_literals
 resumed_run_passes = (refl, refl, refl)
 
 pub resumed_run_wants_a_file : words_fault (codes "run" ∷ codes "--resume" ∷ []) ≡ MissingRequiredArgument ∷ []
 unfolding clap_on_literals
 resumed_run_wants_a_file = refl
+
+-- a command has no fault with the flag `--explain`, and asks then for its fault to be explained
+pub explain_passes : (words_fault (codes "replay" ∷ codes "--explain" ∷ []) ≡ [])
+    × (asked_by (codes "replay" ∷ codes "--explain" ∷ []) ≡ Some (Makes (Replay Open) None true))
+    × (asked_by (codes "run" ∷ codes "--explain" ∷ codes "--journal" ∷ [])
+    ≡ Some (Makes (Run Open outputs.Journal) None true))
+    × (asked_by (codes "resume" ∷ codes "--store" ∷ codes "a.db" ∷ codes "--explain" ∷ [])
+    ≡ Some (Makes (Replay Resume) (Some (codes "a.db")) true))
+unfolding clap_on_literals
+explain_passes = (refl, refl, refl, refl)
 
 -- `migrate` has no fault with its file, which it names, and wants it
 pub migrate_passes : (words_fault (codes "migrate" ∷ codes "--store" ∷ codes "a.db" ∷ []) ≡ [])

@@ -1,5 +1,5 @@
 //! The stores in files.
-//! Cited by tests.rt; whoever calls the trait `Carries` or `Opens`.
+//! Cited by whoever calls the trait `Carries` or `Opens`.
 ghost use Rattle.std.specs.Prelude.{◌≡◌, false};
 ghost use Rattle.sqlite.specs.Files.{over_files};
 ghost use Rattle.linda_kt.specs.Files.{CarriesFile, ConnectsFile, OpensFile};
@@ -9,6 +9,7 @@ use kt_sql::{SqlOpenError, SqlStore, connect};
 use kt_store::MemStore;
 use sqlite::{Connection, File, FileStore};
 use std::alloc::Global;
+use std::fs;
 
 /// Opens the store in a file, or carries it over, by the runtime of the process.
 #[derive(Drop)]
@@ -29,7 +30,47 @@ impl Opens<SqlStore<FileStore<File>>, SqlOpenError> for Files<'_> {
     ghost gives = { λ _ path answer. OpensFile path answer over_files (λ s. s.tables) (λ s. s.counts) };
 
     fn open(self, path: &str) -> Result<SqlStore<FileStore<File>>, SqlOpenError> {
-        SqlStore::open(self.rt, path)
+        let log = log_of(self.rt, path);
+        let had_log = has_file(self.rt, log.as_ref());
+        let opened = SqlStore::open(self.rt, path);
+        if !had_log && opened.as_ref().err() == Some(&SqlOpenError::Damaged) {
+            remove_empty(self.rt, log.as_ref());
+        }
+        opened
+    }
+
+    /// Copies the log into the database file, so that this file alone holds all. Where that fails, the log still holds
+    /// the rest, and the next opening reads it.
+    fn put_away(store: SqlStore<FileStore<File>>) {
+        let _ = store.into_connection().close();
+    }
+}
+
+/// The file in which the log of the store at the path stands; none where memory is wanting.
+fn log_of(rt: &HostRuntime, path: &str) -> Option<String> {
+    format!(in rt.alloc(); "{path}-wal").ok()
+}
+
+/// Whether the file is there and can be read.
+fn has_file(rt: &HostRuntime, path: Option<&String>) -> bool {
+    match path {
+        Some(path) => fs::File::open(rt, path.as_str()).is_ok(),
+        None => false,
+    }
+}
+
+/// Removes the file where it is there and empty: the log of a file that is no store, which opening it has made.
+fn remove_empty(rt: &HostRuntime, path: Option<&String>) {
+    let Some(path) = path else {
+        return;
+    };
+    let is_empty = match fs::File::open(rt, path.as_str()) {
+        Ok(file) => matches!(file.metadata(), Ok(known) if known.len() == 0),
+        Err(_) => false,
+    };
+    if is_empty {
+        // One that can't be removed stays.
+        let _ = fs::remove_file(rt, path.as_str());
     }
 }
 
@@ -59,7 +100,11 @@ impl Carries<OldFile, SqlOpenError> for Files<'_> {
         ensures { CarriesFile over_files old.connection store.now.content result }
     {
         match SqlStore::migrate(alloc, old.connection, store) {
-            Ok(_) => Ok(()),
+            Ok(carried) => {
+                // Copies the log into the file, as `put_away` does.
+                let _ = carried.into_connection().close();
+                Ok(())
+            }
             Err((error, _)) => Err(error),
         }
     }

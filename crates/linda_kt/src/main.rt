@@ -7,23 +7,17 @@
 //!   the exit status says how it ended; what `linda_kt` writes is what that command may write.
 //! - Stands on: kt_tuple, kt_store, kt_sql_tables, kt_sql, kt_scene, kt_stage, kt_run, kt_command; of the kit: sqlite,
 //!   clap
-//! - Used by: none
 //! - Begin in: `program.rt`; the grammar of the words is in `words.rt`.
 #![tactic(auto)]
 
 mod files;
-#[cfg(test)]
-mod opener_tests;
 mod program;
-#[cfg(test)]
-mod run_tests;
-#[cfg(test)]
-mod tests;
 mod words;
 
 use crate::files::Files;
 use kt_scene::{Sink, Source};
 use std::env;
+use std::io::IsTerminal;
 use std::process::ExitCode;
 
 fn main(rt: HostRuntime) -> ExitCode {
@@ -31,6 +25,7 @@ fn main(rt: HostRuntime) -> ExitCode {
     let mut reader = Source::new(rt.stdin());
     let mut writer = Sink::new(rt.stdout());
     let mut errors = rt.stderr();
+    let is_watched = errors.is_terminal();
     // The runtime twice: by the first a file is opened, by the second threads are started.
     let status = program::run_arguments(
         Files::new(&rt),
@@ -40,6 +35,7 @@ fn main(rt: HostRuntime) -> ExitCode {
         &mut reader,
         &mut writer,
         &mut errors,
+        is_watched,
     );
     ExitCode::from(status)
 }

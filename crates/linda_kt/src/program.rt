@@ -1,5 +1,5 @@
 //! What the program does with its words and its three streams.
-//! Cited by opener_tests.rt, tests.rt.
+//! Cited by no other file of crates/.
 ghost use Rattle.std.specs.Prelude.{◌≡◌, ◌≢◌, ◌⊎◌, [], IsErr, IfErr, IfOk};
 ghost use Rattle.std.specs.IoError.{error_kind};
 ghost use Rattle.std.specs.declared.io.ErrorKind.TheVariants as io_kind;
@@ -46,6 +46,7 @@ pub fn run_arguments<
     reader: &mut Source<R>,
     writer: &mut Sink<W>,
     errors: &mut E,
+    is_watched: bool,
 ) -> u8
     ensures no_text { IsErr arguments → (result ≡ COMMAND_LINE) ⊎ (result ≡ MEMORY) }
     ensures no_memory { IfErr arguments (λ e. error_kind e ≡ io_kind.OutOfMemory → result ≡ MEMORY) }
@@ -73,7 +74,9 @@ pub fn run_arguments<
         Err(_) => return answer_words(&refuse_bytes(alloc), writer, errors),
     };
     match texts {
-        Ok(texts) => run_texts(opener, threads, alloc, &texts, reader, writer, errors),
+        Ok(texts) => run_texts(
+            opener, threads, alloc, &texts, reader, writer, errors, is_watched,
+        ),
         Err(AllocError) => end_by("memory", MEMORY, errors),
     }
 }
@@ -95,6 +98,7 @@ fn run_texts<
     reader: &mut Source<R>,
     writer: &mut Sink<W>,
     errors: &mut E,
+    is_watched: bool,
 ) -> u8
     ensures told { words_fault (words_behind arguments.now) ≡ []
         → IsRunStatus ⟦<SqlStore<D> as CkptStore>⟧ (O.gives opener) (O.connects opener)
@@ -115,13 +119,15 @@ fn run_texts<
             reader,
             writer,
             errors,
+            is_watched,
         ),
         Err(AllocError) => end_by("memory", MEMORY, errors),
     }
 }
 
 /// Does what the words ask, which are those after the program's name, and answers the exit status.
-/// A fault is one line on `errors`; of wrong words it is the text of `clap`.
+/// A fault is one line on `errors`, with what explains it where the words ask for that or where a person watches; of
+/// wrong words it is the text of `clap`.
 pub fn run_program<
     D: Alter + Drop + Send,
     C: Drop,
@@ -138,6 +144,7 @@ pub fn run_program<
     reader: &mut Source<R>,
     writer: &mut Sink<W>,
     errors: &mut E,
+    is_watched: bool,
 ) -> u8
     ensures told { words_fault (texts words.now) ≡ []
         → IsRunStatus ⟦<SqlStore<D> as CkptStore>⟧ (O.gives opener) (O.connects opener)
@@ -152,7 +159,9 @@ pub fn run_program<
         → reader.new ≡ reader.old }
 {
     match read_words(alloc, words) {
-        Ok(request) => run_request(opener, threads, alloc, request, reader, writer, errors),
+        Ok(request) => run_request(
+            opener, threads, alloc, request, is_watched, reader, writer, errors,
+        ),
         Err(error) => answer_words(&error, writer, errors),
     }
 }

@@ -6,7 +6,8 @@ ghost use Rattle.clap.specs.declared.builder.command.Command.TheViews.{out-Comma
 ghost use Rattle.clap.specs.Simple.{shape_of};
 ghost use Rattle.kt_command.specs.Asking.{asked};
 ghost use Rattle.kt_command.specs.Command.{texts};
-ghost use Rattle.linda_kt.specs.Words.{asked_by, command_line_app, has_flag, journal_rule, kept_store_rule};
+ghost use Rattle.linda_kt.specs.Words.{asked_by, command_line_app, explain_rule, has_flag, journal_rule};
+ghost use Rattle.linda_kt.specs.Words.{kept_store_rule};
 ghost use Rattle.linda_kt.specs.Words.{migrate_shape, old_store_rule, opening_app, program_app, replay_shape};
 ghost use Rattle.linda_kt.specs.Words.{resume_rule, resume_shape, run_shape, running_app, store_rule, words_fault};
 
@@ -35,7 +36,12 @@ pub fn read_words<'a>(alloc: Global, words: &'a [&'a str]) -> Result<Request<'a>
         return Ok(Request::Migrate { store });
     }
     let command = Command::of_name(name, is_resumed, has_flag(options, "journal")).unwrap();
-    Ok(Request::Make { command, store })
+    let is_explained = has_flag(options, "explain");
+    Ok(Request::Make {
+        command,
+        store,
+        is_explained,
+    })
 }
 
 /// Whether the flag stands among a command's words.
@@ -96,7 +102,7 @@ fn opening_commands<'a>(alloc: Global) -> Result<clap::Command<'a>, AllocError>
         .subcommand(run)
 }
 
-/// `replay` with its option.
+/// `replay` with its option and its flag.
 fn replay_command<'a>(alloc: Global) -> Result<clap::Command<'a>, AllocError>
     ensures shape { IfOk result (λ c. shape_of c ≡ replay_shape) }
     ensures local { IfOk result (λ c. (fields_of c).has_globals ≡ false) }
@@ -104,10 +110,10 @@ fn replay_command<'a>(alloc: Global) -> Result<clap::Command<'a>, AllocError>
     let replay = clap::Command::new(alloc, "replay").about(
         "Makes the steps of the scenario on standard input and writes the report to standard output",
     );
-    replay.arg(store_option(alloc))
+    replay.arg(store_option(alloc))?.arg(explain_flag(alloc))
 }
 
-/// `resume` with its option, which must stand.
+/// `resume` with its option, which must stand, and its flag.
 fn resume_command<'a>(alloc: Global) -> Result<clap::Command<'a>, AllocError>
     ensures shape { IfOk result (λ c. shape_of c ≡ resume_shape) }
     ensures local { IfOk result (λ c. (fields_of c).has_globals ≡ false) }
@@ -116,7 +122,9 @@ fn resume_command<'a>(alloc: Global) -> Result<clap::Command<'a>, AllocError>
         "Goes on from a store after the program was stopped: makes the steps of the scenario on standard input and \
          writes the report to standard output",
     );
-    resume.arg(kept_store_option(alloc))
+    resume
+        .arg(kept_store_option(alloc))?
+        .arg(explain_flag(alloc))
 }
 
 /// `run` with its option and its flags.
@@ -129,7 +137,8 @@ fn run_command<'a>(alloc: Global) -> Result<clap::Command<'a>, AllocError>
     );
     run.arg(store_option(alloc))?
         .arg(journal_flag(alloc))?
-        .arg(resume_flag(alloc))
+        .arg(resume_flag(alloc))?
+        .arg(explain_flag(alloc))
 }
 
 /// `migrate` with its option, which must stand.
@@ -167,6 +176,19 @@ fn resume_flag<'a>(alloc: Global) -> Arg<'a>
         .action(ArgAction::SetTrue)
         .help(
             "Goes on from what FILE holds, after the program was stopped; it need not be fresh then",
+        )
+}
+
+/// `--explain`.
+fn explain_flag<'a>(alloc: Global) -> Arg<'a>
+    ensures rule { rule_of result ≡ explain_rule }
+    ensures local { result.global ≡ false }
+{
+    Arg::new(alloc, "explain")
+        .long("explain")
+        .action(ArgAction::SetTrue)
+        .help(
+            "Says behind the line of a fault why it came; on a terminal that is so without the flag",
         )
 }
 

@@ -1,6 +1,6 @@
 -- What a store that is honest keeps of the nodes of a world, so that each write of a step is one that the store allows.
 -- Cited by Backs, Boards, CheckLeaves, Fit, HeldActs, Holding, Kept, Lasting, Opened, Resuming, RollLeaves, Settle,
---   Settling, StaysBacked, StepPlans, StepSound, Writes; kt_core, kt_refinement.
+--   Settling, StaysBacked, StepPlans, StepSound, Writes; other crates.
 use Rattle.std.specs.Prelude.{◌≡◌, ℕ, ◌+◌, ◌≤◌, true, nat_lt, List, [], AllPairs, Option, None, Some, Contains, IfSome}
 use Rattle.kt_tuple.specs.declared.node.NodeId.{NodeId}
 use Rattle.kt_shard.specs.Table.{at}

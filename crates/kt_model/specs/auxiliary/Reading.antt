@@ -1,5 +1,5 @@
 -- What a store tells of what was asked.
--- Cited by Enough; kt_core.
+-- Cited by Enough; other crates.
 use Rattle.std.specs.Prelude.{if◌then◌else◌, Option, None}
 use Rattle.kt_tuple.specs.declared.node.NodeId.{NodeId}
 use Rattle.kt_store.specs.declared.rows.Verdict.{Verdict}

@@ -2,7 +2,7 @@
 -- the counts are small, each node is of its kind, and who sent, asked or was asked is a neighbour.
 -- Cited by ActLeaves, CanApplies, FailLeaves, FirstCut, Fit, Gives, Good, GoodActs, GoodAsks, Growing, Holding, Kept,
 --   Lasting, Leaves, Loads, Opened, Passed, Resuming, RollLeaves, Saves, Scene, StepPlans, StepSound, Undamaged and 1
---   more; kt_core, kt_refinement, kt_run, kt_stage.
+--   more; other crates.
 use Rattle.std.specs.Prelude.{◌≡◌, ◌≢◌, ℕ, ◌<◌, ◌≤◌, List, [], length, Contains, IfSome, IsTrue, is_some, None}
 use Rattle.std.specs.List.{AllByRecursion}
 use Rattle.kt_tuple.specs.declared.node.NodeId.{NodeId}

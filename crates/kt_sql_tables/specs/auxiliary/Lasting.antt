@@ -1,5 +1,5 @@
 -- What a statement leaves of a connection that was open.
--- Cited by TabledLemmas, statements.rt; kt_sql.
+-- Cited by TabledLemmas, statements.rt; other crates.
 use Rattle.std.specs.Prelude.{◌⊎◌, ◌≤◌, ◌+◌, ℕ, IsTrue}
 use Rattle.sqlite.specs.State.{HasCleanDisk, State}
 use Rattle.sqlite_disk.specs.Disk.{MoreFaults}

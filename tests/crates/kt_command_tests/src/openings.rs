@@ -19,11 +19,13 @@ const PATH: &str = "a.db";
 const REPLAY: Request<'static> = Request::Make {
     command: Command::Replay(Start::Open),
     store: Some(PATH),
+    is_explained: false,
 };
 
 const RUN: Request<'static> = Request::Make {
     command: Command::Run(Start::Open, Output::Report),
     store: Some(PATH),
+    is_explained: false,
 };
 
 /// A check with all votes and its verdict, before which the shard fails that is told of it.
@@ -88,6 +90,10 @@ impl Opens<SqlStore<MemStore>, SqlOpenError> for InMemory<'_> {
             Err((error, _)) => Err(error),
         }
     }
+
+    fn put_away(store: SqlStore<MemStore>) {
+        drop(store);
+    }
 }
 
 /// It connects to the same.
@@ -150,6 +156,11 @@ impl Opens<SqlStore<FileStore<Fuse<Memory>>>, SqlOpenError> for OnFuses<'_> {
             Ok(store) => Ok(store),
             Err((error, _)) => Err(error),
         }
+    }
+
+    /// The log goes into the file, as of the store in a real one.
+    fn put_away(store: SqlStore<FileStore<Fuse<Memory>>>) {
+        let _ = store.into_connection().close();
     }
 }
 
@@ -220,6 +231,7 @@ fn end_of<
         threads,
         alloc,
         request,
+        false,
         &mut reader,
         &mut writer,
         &mut errors,
@@ -253,9 +265,10 @@ fn opens_once(rt: HostRuntime) -> Result<(), Fail> {
             asked: &asked,
         };
         let in_memory = match request {
-            Request::Make { command, store: _ } => Request::Make {
+            Request::Make { command, .. } => Request::Make {
                 command,
                 store: None,
+                is_explained: false,
             },
             Request::Migrate { store: _ } => return Err(Fail::from("a command")),
         };

@@ -4,7 +4,7 @@
 use crate::runs::{ROWS, Row, replayed};
 use kt_core::{OpenError, Start, StepError};
 use kt_run::{Output, RunTextFault, run_text_returning_store};
-use kt_scene::{ReplayFault, Sink, Source};
+use kt_scene::{Nobody, ReplayFault, Sink, Source};
 use kt_stage::{OpenGate, RunFault};
 use kt_store::{CkptStore, FaultStore, MemStore, StoreError};
 use std::alloc::Global;
@@ -31,7 +31,7 @@ fn run<T: Threads + Wait + Sync, S: CkptStore + Send + Drop>(
     let (mut source, mut sink) = (Source::new(text), Sink::new(Vec::new(alloc)));
     let start = Start::Open;
     let (answer, left) = run_text_returning_store(
-        rt, alloc, start, &mut source, &mut sink, store, output, &OpenGate,
+        rt, alloc, start, &mut source, &mut sink, store, output, &OpenGate, &mut Nobody,
     );
     (answer, sink.into_inner(), left)
 }

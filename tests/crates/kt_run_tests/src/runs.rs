@@ -2,7 +2,7 @@
 
 use kt_core::{OpenError, Start};
 use kt_run::{Output, RunTextFault, run_text, run_text_returning_store};
-use kt_scene::{ReplayFault, Sink, Source, replay};
+use kt_scene::{Nobody, ReplayFault, Sink, Source, replay};
 use kt_stage::{OpenGate, RunFault};
 use kt_store::{CkptStore, MemStore};
 use kt_tuple::NodeId;
@@ -116,6 +116,7 @@ fn the_store_is_given_back(rt: HostRuntime) -> Result<(), Fail> {
         store,
         Output::Report,
         &OpenGate,
+        &mut Nobody,
     );
     assert!(rt; answer == Ok(()), "{answer:?}");
     let mut left = left;
@@ -130,6 +131,7 @@ fn the_store_is_given_back(rt: HostRuntime) -> Result<(), Fail> {
         left,
         Output::Report,
         &OpenGate,
+        &mut Nobody,
     );
     let not_fresh = RunTextFault::Run(RunFault::Open(OpenError::NotFresh));
     assert!(rt; answer == Err(not_fresh), "{answer:?}");

@@ -3,7 +3,7 @@
 use crate::courses::{Course, Failing};
 use crate::rollbacks::ROWS;
 use kt_core::{OpenError, OpenRefused, StepError, World};
-use kt_scene::{ReplayFault, Sink, Source, Start, replay_returning_store, write_report};
+use kt_scene::{Nobody, ReplayFault, Sink, Source, Start, replay_returning_store, write_report};
 use kt_store::{CkptStore, FaultStore, MemStore, StoreError};
 use std::alloc::Global;
 use std::process::Abort;
@@ -154,7 +154,7 @@ fn replay_fault(
     at: u64,
 ) -> Option<ReplayFault> {
     let (mut source, mut sink) = (Source::new(text), Sink::new(Vec::new(alloc)));
-    let (answer, left) = replay_returning_store(alloc, Start::Open, &mut source, &mut sink, failing(alloc, at));
+    let (answer, left) = replay_returning_store(alloc, Start::Open, &mut source, &mut sink, failing(alloc, at), &mut Nobody);
     let written = sink.into_inner();
     assert_eq!(rt;
         (left.faults(), left.wants()),

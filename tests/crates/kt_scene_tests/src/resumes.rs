@@ -5,7 +5,7 @@ use kt_core::{ResumeError, Scene, StepError, World};
 use kt_history::{Note, What};
 use kt_node::Mode;
 use kt_scene::{
-    ReplayFault, Scenario, Sink, Source, Start, WorkKind, read_scene, replay_returning_store, resume_replay,
+    Nobody, ReplayFault, Scenario, Sink, Source, Start, WorkKind, read_scene, replay_returning_store, resume_replay,
 };
 use kt_sql::SqlStore;
 use kt_store::{CkptStore, MemStore};
@@ -160,7 +160,7 @@ fn replayed<S: CkptStore + Drop>(
 ) -> Result<(Result<(), ReplayFault>, Vec<u8>, S), Fail> {
     let text = text_of(alloc, parts)?;
     let (mut source, mut sink) = (Source::new(text.as_slice()), Sink::new(Vec::new(alloc)));
-    let (answer, left) = replay_returning_store(alloc, start, &mut source, &mut sink, store);
+    let (answer, left) = replay_returning_store(alloc, start, &mut source, &mut sink, store, &mut Nobody);
     Ok((answer, sink.into_inner(), left))
 }
 

@@ -5,7 +5,7 @@ use kt_core::{StepError, World};
 use kt_history::Note;
 use kt_node::Mode;
 use kt_scene::{
-    OpenError, ReplayFault, Sink, Source, Start, replay, replay_returning_store, replay_world,
+    Nobody, OpenError, ReplayFault, Sink, Source, Start, replay, replay_returning_store, replay_world,
 };
 use kt_sql::SqlStore;
 use kt_store::{CkptStore, MemStore};
@@ -331,12 +331,12 @@ fn the_store_is_given_back(rt: HostRuntime) -> Result<(), Fail> {
     let alloc = rt.alloc();
     let text = text_of(alloc, &[ONE_WORKER, PUT, "check w1\n"])?;
     let (mut source, mut sink) = (Source::new(text.as_slice()), Sink::new(Vec::new(alloc)));
-    let (answer, left) = replay_returning_store(alloc, Start::Open, &mut source, &mut sink, MemStore::new(alloc));
+    let (answer, left) = replay_returning_store(alloc, Start::Open, &mut source, &mut sink, MemStore::new(alloc), &mut Nobody);
     assert_eq!(rt; answer, Ok(()));
     let mut left = left;
     assert!(rt; left.open_of(NodeId::Worker(1)) == Ok(Some(1)));
     let (mut source, mut sink) = (Source::new(text.as_slice()), Sink::new(Vec::new(alloc)));
-    let (answer, left) = replay_returning_store(alloc, Start::Open, &mut source, &mut sink, left);
+    let (answer, left) = replay_returning_store(alloc, Start::Open, &mut source, &mut sink, left, &mut Nobody);
     assert_eq!(rt; answer, Err(ReplayFault::Open(OpenError::NotFresh)));
     let mut left = left;
     assert!(rt; left.next_instance() == Ok(2));

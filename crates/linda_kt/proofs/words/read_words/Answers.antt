@@ -23,8 +23,9 @@ returns-clause-command c =
     (sym c.has_flag-is_resumed.ensures)
     ∙ ap (λ (b : Bool). command_of c.unwrap.result.0.now c.has_flag-is_resumed.result b) (sym c.has_flag.ensures)
     ∙ sym c.of_name.ensures ∙ search rules in
-    asked_is _ _ _ c.subcommand.result c.unwrap.result c.unwrap-command.result c.get_str-store.result c.in_ok-command_line.ensures
-    c.in_ok-matches.ensures.matches c.subcommand.ensures.name c.subcommand.ensures.rows (search rules) (search rules) is c.get_str-store.ensures
+    asked_is _ _ _ c.subcommand.result c.unwrap.result c.unwrap-command.result c.get_str-store.result c.has_flag-is_explained.result
+    c.in_ok-command_line.ensures c.in_ok-matches.ensures.matches c.subcommand.ensures.name c.subcommand.ensures.rows (search rules)
+    (search rules) is c.get_str-store.ensures c.has_flag-is_explained.ensures
 
 pub returns-clause-refused : goal.returns-clause-refused
 returns-clause-refused c =

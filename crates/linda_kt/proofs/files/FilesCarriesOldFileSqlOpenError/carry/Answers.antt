@@ -4,7 +4,7 @@ pub returns-in-Ok : goal.returns-in-Ok
 returns-in-Ok c =
     let is = c.in-Ok.ensures in
     record {
-      left = c.in-Ok.field-0.tables.conn;
+      left = c.in-Ok.carried.tables.conn;
       same = is.same;
       version = is.version;
       holds = is.content;

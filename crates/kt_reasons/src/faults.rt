@@ -1,0 +1,83 @@
+//! Faults that no line of the text has, in words: of the store, of memory and of the streams.
+//! Cited by other crates.
+
+use crate::names::Name;
+use crate::reasons::meaning_of_store;
+use kt_scene::{OpenError, ReplayFault, ResumeError, StepError};
+use std::alloc::{AllocError, Global};
+use std::fmt::Write;
+
+/// Why a store is not what a command can begin with.
+const NOT_FRESH: &str =
+    "the store holds what an earlier command left: name another file, or go on from it by `resume` or `run --resume`";
+
+/// What the fault means and what to do, on a line that begins with two spaces. Nothing of a fault that has a line of
+/// the text: `explain_text` and `explain_step` explain that.
+pub fn explain_fault(alloc: Global, fault: ReplayFault) -> Result<Vec<u8>, AllocError> {
+    let mut out = String::new(alloc);
+    match fault {
+        ReplayFault::Open(OpenError::NotFresh) => writeln!(out, "  {NOT_FRESH}")?,
+        ReplayFault::Resume(ResumeError::Unfit { node }) => {
+            let name = Name(node);
+            writeln!(
+                out,
+                "  what the store holds of {name} is not what this scene leaves: it was made by a scenario with other \
+                 shards, workers or scripts"
+            )?;
+        }
+        ReplayFault::Open(OpenError::Store(cause))
+        | ReplayFault::Resume(ResumeError::Store(cause))
+        | ReplayFault::Report(cause) => {
+            let meaning = meaning_of_store(cause);
+            writeln!(out, "  {meaning}")?;
+        }
+        ReplayFault::Read => out.push_str(
+            "  standard input could not be read: is it a folder, or was it closed?\n",
+        )?,
+        ReplayFault::Write => out.push_str(
+            "  standard output could not be written: is the disk full, or has the reader gone?\n",
+        )?,
+        ReplayFault::Step {
+            at: _,
+            cause: StepError::StepLimit,
+        } => out.push_str("  the run has made as many steps as a world makes\n")?,
+        ReplayFault::Scene { .. }
+        | ReplayFault::Step { .. }
+        | ReplayFault::Open(OpenError::OutOfMemory)
+        | ReplayFault::Resume(ResumeError::OutOfMemory)
+        | ReplayFault::Memory => {}
+    }
+    Ok(out.into_bytes())
+}
+
+/// Why no store was opened at the path, by the name of the refusal as the program prints it.
+fn why_not_opened(name: &str) -> Option<&'static str> {
+    match name {
+        "Memory" => Some("there was no memory to open it"),
+        "Device" => Some(
+            "it could not be opened or made: is it a folder, is there no such folder, or may it not be written?",
+        ),
+        "Damaged" => Some(
+            "it is there and is no store of this program: name a file that is not there yet",
+        ),
+        "Version" => Some(
+            "it is a store of version 1 that holds something: carry it over by `migrate` with the journal that made it",
+        ),
+        "Mismatch" => Some("it does not hold just what the journal makes"),
+        _ => None,
+    }
+}
+
+/// Why no store was opened at the path, and what to do, on a line that begins with two spaces. The refusal is named as
+/// the program prints it: `Memory`, `Device`, `Damaged`, `Version` or `Mismatch`; of any other nothing is said.
+pub fn explain_unopened(alloc: Global, path: &str, name: &str) -> Result<Vec<u8>, AllocError> {
+    let mut out = String::new(alloc);
+    if path.is_empty() {
+        out.push_str("  the name of the file is empty: write `--store FILE`\n")?;
+    } else if path == ":memory:" {
+        out.push_str("  `:memory:` names no file: leave `--store` out for a store in memory\n")?;
+    } else if let Some(why) = why_not_opened(name) {
+        writeln!(out, "  {path}: {why}")?;
+    }
+    Ok(out.into_bytes())
+}

@@ -1,0 +1,4 @@
+pub mod Later
+pub mod Lines
+pub mod Rows
+pub mod Boards

@@ -1,0 +1,5 @@
+//! Tests of kt_reasons' public calls.
+#![tactic(auto)]
+
+#[cfg(test)]
+mod steps;

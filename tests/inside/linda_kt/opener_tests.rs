@@ -1,0 +1,138 @@
+//! The program over an opener that notes what it is asked.
+//! Cited by whoever calls the trait `Carries` or `Opens`.
+use crate::program::run_program;
+use crate::tests::{PUT_AND_TAKE, PUT_AND_TAKE_REPORT};
+use kt_command::{Carries, Opens};
+use kt_scene::{Sink, Source};
+use kt_sql::{SqlOpenError, SqlStore};
+use sqlite::{Connection, MemStore};
+use std::alloc::Global;
+use std::cell::Cell;
+use std::test::Fail;
+
+/// Opens a fresh store in SQL for one path, and counts how often it is asked.
+#[derive(Drop)]
+struct Noting<'a> {
+    rt: &'a HostRuntime,
+    path: &'a str,
+    asked: &'a Cell<u32>,
+}
+
+impl Opens<SqlStore<MemStore>, SqlOpenError> for Noting<'_> {
+    ghost use Rattle.std.specs.Prelude.{⊤};
+
+    ghost gives = { λ _ _ _. ⊤ };
+
+    fn open(self, path: &str) -> Result<SqlStore<MemStore>, SqlOpenError> {
+        self.asked.set(self.asked.get().saturating_add(1));
+        if path != self.path {
+            return Err(SqlOpenError::Damaged);
+        }
+        SqlStore::in_memory(self.rt.alloc())
+    }
+
+    fn put_away(store: SqlStore<MemStore>) {
+        drop(store);
+    }
+}
+
+/// It connects to a fresh database for the same path.
+impl Carries<Connection<MemStore>, SqlOpenError> for Noting<'_> {
+    ghost use Rattle.std.specs.Prelude.{◌≡◌, false, ⊤};
+
+    ghost connects = { λ _ _ _. ⊤ };
+
+    ghost carries = { λ _ _ _. ⊤ };
+
+    ghost ready = { λ c. c.in_transaction ≡ false };
+
+    fn connect(self, path: &str) -> Result<Connection<MemStore>, SqlOpenError> {
+        self.asked.set(self.asked.get().saturating_add(1));
+        if path != self.path {
+            return Err(SqlOpenError::Damaged);
+        }
+        Ok(Connection::open_in_memory(self.rt.alloc())?)
+    }
+
+    fn carry(
+        alloc: Global,
+        connection: Connection<MemStore>,
+        store: &kt_store::MemStore,
+    ) -> Result<(), SqlOpenError>
+        requires { connection.in_transaction ≡ false }
+        ensures { ⊤ }
+    {
+        match SqlStore::migrate(alloc, connection, store) {
+            Ok(_) => Ok(()),
+            Err((error, _)) => Err(error),
+        }
+    }
+}
+
+/// Words, how often the opener of `a.db` is asked, the output, the line on the errors, and the status.
+const ROWS: [(&[&str], u32, &str, &str, u8); 9] = [
+    (&["replay"], 0, PUT_AND_TAKE_REPORT, "", 0),
+    (
+        &["replay", "--store", "a.db"],
+        1,
+        PUT_AND_TAKE_REPORT,
+        "",
+        0,
+    ),
+    (&["replay", "--store=a.db"], 1, PUT_AND_TAKE_REPORT, "", 0),
+    (&["replay", "--store", "b.db"], 1, "", "store: Damaged\n", 5),
+    (&["run", "--store", "a.db"], 1, "", "line 6: 2 Word\n", 3),
+    (
+        &["migrate", "--store", "a.db"],
+        1,
+        "",
+        "store: Mismatch\n",
+        5,
+    ),
+    (&["migrate", "--store=a.db"], 1, "", "store: Mismatch\n", 5),
+    (
+        &["migrate", "--store", "b.db"],
+        1,
+        "",
+        "store: Damaged\n",
+        5,
+    ),
+    (&["replay", "--store=b.db"], 1, "", "store: Damaged\n", 5),
+];
+
+/// The opener is asked once, for the path that is named, and not at all where none is.
+#[test]
+fn asks_the_opener_once(rt: HostRuntime) -> Result<(), Fail> {
+    let alloc = rt.alloc();
+    for (words, times, output, line, expected) in &ROWS {
+        let asked = Cell::new(0u32);
+        let opener = Noting {
+            rt: &rt,
+            path: "a.db",
+            asked: &asked,
+        };
+        let mut reader = Source::new(PUT_AND_TAKE.as_bytes());
+        let mut writer = Sink::new(Vec::new(alloc));
+        let mut errors = Vec::new(alloc);
+        let status = run_program(
+            opener,
+            &rt,
+            alloc,
+            words,
+            &mut reader,
+            &mut writer,
+            &mut errors,
+            false,
+        );
+        assert_eq!(rt; asked.get(), *times, "{words:?}");
+        assert!(rt;
+            writer.into_inner().as_slice() == output.as_bytes(),
+            "{words:?}"
+        );
+        assert!(rt;
+            errors.as_slice() == line.as_bytes() && status == *expected,
+            "{words:?}"
+        );
+    }
+    Ok(())
+}

@@ -1,0 +1,127 @@
+"""What `--explain` says behind the line of a fault: each mistake in a text that the tests of kt_explain have, refused
+steps, stores that are not opened, and streams that fail."""
+
+import glob
+import os
+import re
+import tempfile
+
+from on_program.starting import FOLDER, ROOT, start, tell, told
+
+TESTS = f"{ROOT}/tests/inside/kt_explain/tests"
+ESCAPES = {"n": "\n", "r": "\r", "t": "\t", '"': '"', "\\": "\\", "0": "\0"}
+LITERAL = re.compile(r'r#"(?P<raw>.*?)"#|"(?P<plain>(?:[^"\\]|\\.)*)"', re.DOTALL)
+TABLE = re.compile(r"(?:const|static) (\w+): &\[Row\] = &\[(.*?)\]?\)?\];\n", re.DOTALL)
+CALL = re.compile(r'assert_said\(\s*&rt,\s*alloc,\s*(\w+|"(?:[^"\\]|\\.)*"),\s*WorkKind::(\w+),\s*(\w+),?\s*\)')
+CONSTANT = re.compile(r'const (\w+): &str = ("(?:[^"\\]|\\.)*");', re.DOTALL)
+WORDS = {"Steps": "replay", "Faults": "run"}
+ONE_LINE = re.compile(rb"line \d+: [1-7] [A-Z][a-z]+\n")
+
+
+def text_of(literal):
+    """The text of a literal of the tests' language."""
+    if literal["raw"] is not None:
+        return literal["raw"]
+    text = re.sub(r"\\\n\s*", "", literal["plain"])
+    text = re.sub(r"\\u\{(\w+)\}|\\x(\w\w)", lambda found: chr(int(found[1] or found[2], 16)), text)
+    return re.sub(r"\\(.)", lambda found: ESCAPES[found[1]], text)
+
+
+def rows():
+    """The rows of the tests of kt_explain: a name, the command, a text, and what is said of it."""
+    tables = {}
+    for path in glob.glob(f"{TESTS}/*.rs"):
+        with open(path, encoding="utf-8") as file:
+            for name, body in TABLE.findall(file.read()):
+                texts = [text_of(literal) for literal in LITERAL.finditer(body)]
+                tables[name] = list(zip(texts[::3], texts[1::3], texts[2::3]))
+    with open(f"{TESTS}.rs", encoding="utf-8") as file:
+        page = file.read()
+    above = {name: text_of(LITERAL.fullmatch(text)) for name, text in CONSTANT.findall(page)}
+    for place, kind, table in CALL.findall(page):
+        before = above[place] if place in above else text_of(LITERAL.fullmatch(place))
+        for name, line, said in tables[table]:
+            yield name, WORDS[kind], (before + line).encode(), said.encode()
+
+
+def mistakes():
+    """Each mistake in a text: one line without the flag, and with it the same line and what is said."""
+    count = 0
+    for name, word, text, said in rows():
+        output, line, status = start([word], text, b"")
+        is_line = bool(ONE_LINE.fullmatch(line))
+        yield tell(f"explained: {name}", (b"", line + said, 3), start([word, "--explain"], text, b""))
+        count += is_line and (output, status) == (b"", 3)
+    yield told("explained: so many mistakes have one line without the flag", count, len(list(rows())))
+
+
+SCENE = b'linda-kt 1\nshards 1\nworker\nout ("a", 1)\nin ("a", ?int x)\nsteps\n'
+# Steps behind the scene's lines, and what is said of the last one.
+STEPS = [
+    ("issue w2", "there is no w2: the scene has w1 and s1"),
+    ("issue s1", "s1 is a shard, and only a worker asks"),
+    ("issue w1\nserve s1 w1 0",
+     "w1 does not wait at s1: on the link from w1 to s1 is 1 message still, so `deliver w1 s1` comes first"),
+    ("issue w1\ndeliver s1 w1", "no message is on the link from s1 to w1; the other way, 1 message: `deliver w1 s1`"),
+    ("deliver w1 w1", "messages go between a worker and a shard, and w1 and w1 are no such pair"),
+    ("issue w1\ndeliver w1 s1\nserve w1 s1 0",
+     "a shard serves a worker: `serve SHARD WORKER PLACE`, and here stand w1 and s1"),
+    ("issue w1\nissue w1", "request 1 of w1 is unanswered: it can be asked once more by `repeat w1`"),
+    ("learn w1", "w1 is up; a verdict is learnt by who was asked for a checkpoint or a rollback, and by who began a check"),
+    ("restart w1", "w1 is up; only a node restarts that has failed, or whose own rollback got No"),
+    ("fail w1\nissue w1", "w1 is down: it has failed and did not restart yet; only a node that is up does this"),
+]
+
+
+def refused_steps():
+    """Each refused step with its line and the reason."""
+    for lines, said in STEPS:
+        text = SCENE + lines.encode() + b"\nend\n"
+        _, line, status = start(["replay"], text, b"")
+        at = SCENE.count(b"\n") + lines.count("\n") + 1
+        last = lines.rsplit("\n", 1)[-1]
+        wanted = line + f"  line {at}: {last}\n  {said}\n".encode()
+        is_one = line.startswith(b"step ") and line.count(b"\n") == 1 and status == 4
+        yield told(f"one line without the flag: {last}", True, is_one)
+        yield tell(f"explained: {last}", (b"", wanted, 4), start(["replay", "--explain"], text, b""))
+
+
+# Why a store is not opened, and what is said.
+NO_STORE = "it is there and is no store of this program: name a file that is not there yet"
+NO_FILE = "it could not be opened or made: is it a folder, is there no such folder, or may it not be written?"
+
+
+def refused_stores():
+    """Stores that are not opened; beside a file that is none nothing is left."""
+    with tempfile.TemporaryDirectory() as folder:
+        notes = f"{folder}/notes.txt"
+        with open(notes, "w", encoding="ascii") as file:
+            file.write("these are notes, and no database\n" * 40)
+        for path, name, said in (
+            (notes, "Damaged", f"{notes}: {NO_STORE}"),
+            (folder, "Device", f"{folder}: {NO_FILE}"),
+            (f"{folder}/no/such.db", "Device", f"{folder}/no/such.db: {NO_FILE}"),
+            (":memory:", "Device", "`:memory:` names no file: leave `--store` out for a store in memory"),
+            ("", "Device", "the name of the file is empty: write `--store FILE`"),
+        ):
+            wanted = f"store: {name}\n  {said}\n".encode()
+            got = start(["replay", "--explain", f"--store={path}"], SCENE + b"end\n", b"")
+            yield tell(f"explained: a store at {path or 'no name'}", (b"", wanted, 5), got)
+        yield told("nothing is left beside a file that is no store", ["notes.txt"], sorted(os.listdir(folder)))
+        used = f"{folder}/used.db"
+        checked = SCENE + b"check w1\ndecide w1\nend\n"
+        start(["replay", "--store", used], checked, b"")
+        said = "the store holds what an earlier command left: name another file, or go on from it by `resume` or `run --resume`"
+        wanted = f"store: NotFresh\n  {said}\n".encode()
+        got = start(["replay", "--explain", "--store", used], checked, b"")
+        yield tell("explained: a store that was used", (b"", wanted, 5), got)
+
+
+def explained():
+    """All of it."""
+    yield from mistakes()
+    yield from refused_steps()
+    yield from refused_stores()
+    wanted = b"read\n  standard input could not be read: is it a folder, or was it closed?\n"
+    yield tell("explained: a folder as standard input", (b"", wanted, 7), start(["replay", "--explain"], FOLDER, b""))
+    yield tell("a scenario without a fault", start(["replay"], SCENE + b"end\n", b""), start(["replay", "--explain"], SCENE + b"end\n", b""))
