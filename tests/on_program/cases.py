@@ -124,7 +124,7 @@ CASES = [
      Starts("error: unexpected argument '--journal' found"), 2),
     ("a flag twice", ["run", "--journal", "--journal"], b"", b"",
      Starts("error: the argument '--journal' cannot be used multiple times"), 2),
-    ("a word too many", ["replay", "more"], b"", b"", Starts("error: unexpected argument 'more' found"), 2),
+    ("a word too many", ["replay", "one", "more"], b"", b"", Starts("error: unexpected argument 'more' found"), 2),
     ("a word that is no text", [b"\xff"], b"", b"",
      Starts("error: invalid UTF-8 was detected in one or more arguments"), 2),
     ("an empty word", [""], b"", b"", Starts("error: unrecognized subcommand ''"), 2),

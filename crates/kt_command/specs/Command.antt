@@ -10,7 +10,9 @@ use Rattle.kt_run.specs.declared.running.Output.{Output}
 use Rattle.kt_run.specs.declared.running.Output.TheVariants as outputs
 use Rattle.kt_core.specs.declared.start.Start.{Start}
 pub use Rattle.kt_core.specs.declared.start.Start.TheVariants.{Open, Resume}
+use Rattle.kt_words.specs.declared.shell.Shell.{Shell}
 use Rattle.kt_command.specs.declared.command.Command.{Command}
+use Rattle.kt_command.specs.declared.request.Telling.{Telling}
 use Rattle.kt_command.specs.declared.command.Command.TheVariants.{Replay, Run}
 
 -- the bytes of a word, or of a path
@@ -39,11 +41,23 @@ command_of word is_resumed has_journal =
     else if is_word word (codes "run") then Some (Run (start_of is_resumed) (output_of has_journal))
     else None
 
--- what a program is asked to do: a command, over the store in a file or in memory, with its fault explained or not; or
--- to carry the store in a file over
+-- what is done with a scenario: a command over the store in a file or in memory; the store in a file is carried over; it
+-- is read, and nothing else; or it is completed
+pub data Done : Type 0 where
+  Makes : Command → Option Text → Done
+  Carries : Text → Done
+  Checks : Done
+  Completes : Done
+
+-- what a program is asked to do: something with the scenario in a file or on standard input, explained so; to say
+-- what a store in a file holds, in words or as JSON; to say what a word means; to write the words of a shell's
+-- completion, or the manual's page
 pub data Asked : Type 0 where
-  Makes : Command → Option Text → (is_explained : Bool) → Asked
-  Carries : Text → Asked
+  Reads : Done → (file : Option Text) → Telling → Asked
+  Shows : (path : Text) → (is_json : Bool) → Asked
+  Explains : (word : Text) → Asked
+  Prompts : Shell → Asked
+  Teaches : Asked
 
 -- the texts behind references
 abbrev pub texts : List (Bor Text) → List Text

@@ -4,3 +4,10 @@ pub mod Answers
 pub mod Asking
 pub mod Carried
 pub mod Opened
+pub mod Checked
+pub mod Meant
+pub mod OverText
+pub mod Silence
+pub mod Completed
+pub mod Printed
+pub mod Shown

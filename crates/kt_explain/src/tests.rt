@@ -8,7 +8,7 @@ use crate::tests::heads::{BEHIND_END, IN_SHARDS, IN_TITLE, IN_TITLE_OF_RUN, IN_W
 use crate::tests::scripts::{IN_JOURNAL, IN_NAMES, IN_RESUMED, IN_SCRIPT, IN_SCRIPT_OF_RUN};
 use crate::tests::tuples::IN_TUPLES;
 use crate::tests::work::{IN_FAULTS, IN_MORE_NODES, IN_STEPS};
-use crate::{Part, explain_number, explain_text, meanings, nearest, part_of};
+use crate::{Part, explain_text, meanings, meanings_of, nearest, part_of};
 use kt_text::{MAX_TEXT, SceneError, SceneFault, WorkKind, read_scene};
 use kt_tuple::writing::push_number;
 use std::alloc::Global;
@@ -261,16 +261,19 @@ fn the_nearest_word_is_found(rt: HostRuntime) -> Result<(), Fail> {
 }
 
 #[test]
-fn all_meanings_of_a_number_are_told(rt: HostRuntime) -> Result<(), Fail> {
-    let said = explain_number(rt.alloc(), 8)?;
+fn all_meanings_of_a_word_are_told(rt: HostRuntime) -> Result<(), Fail> {
+    let said = meanings_of(rt.alloc(), "8")?;
     assert_eq!(rt;
         str::from_utf8(&said)?,
         "fault 8 OutOfMemory: memory ran out while the scenario was read\n\
 refusal 8 Store: a call of the store was refused\n\
 status 8: there are more steps than can be made at once\n"
     );
-    assert!(rt; explain_number(rt.alloc(), 1)?.len() > 0);
-    assert!(rt; explain_number(rt.alloc(), 10)?.is_empty());
+    let said = meanings_of(rt.alloc(), "NotFresh")?;
+    assert!(rt; str::from_utf8(&said)?.starts_with("store NotFresh: "));
+    for word in ["", "10", "Unknown"] {
+        assert!(rt; meanings_of(rt.alloc(), word)?.is_empty(), "{word}");
+    }
     assert!(rt; meanings().iter().all(|meaning| !meaning.text.is_empty()));
     Ok(())
 }

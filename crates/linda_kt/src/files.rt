@@ -1,17 +1,18 @@
 //! The stores in files.
-//! Cited by tests.rt; whoever calls the trait `Carries` or `Opens`.
+//! Cited by tests.rt; whoever calls the trait `Carries`, `Opens` or `Shows`.
 ghost use Rattle.std.specs.Prelude.{◌≡◌, false};
 ghost use Rattle.sqlite.specs.Files.{over_files};
-ghost use Rattle.linda_kt.specs.Files.{CarriesFile, ConnectsFile, OpensFile};
+ghost use Rattle.linda_kt.specs.Files.{CarriesFile, ConnectsFile, OpensFile, OpensStore};
 
-use kt_command::{Carries, Opens};
+use crate::copies::{ShowError, copy_aside};
+use kt_command::{Carries, Opens, Shows, Texts};
 use kt_sql::{SqlOpenError, SqlStore, connect};
 use kt_store::MemStore;
 use sqlite::{Connection, File, FileStore};
 use std::alloc::Global;
-use std::fs;
+use std::{fs, io};
 
-/// Opens the store in a file, or carries it over, by the runtime of the process.
+/// Opens the store or the scenario in a file or a copy of a store, or carries a store over, by the runtime of the process.
 #[derive(Drop)]
 pub struct Files<'a> {
     rt: &'a HostRuntime,
@@ -43,6 +44,34 @@ impl Opens<SqlStore<FileStore<File>>, SqlOpenError> for Files<'_> {
     /// the rest, and the next opening reads it.
     fn put_away(store: SqlStore<FileStore<File>>) {
         let _ = store.into_connection().close();
+    }
+}
+
+/// Opens the scenario in a file.
+impl Texts<fs::File, io::Error> for Files<'_> {
+    ghost use Rattle.std.specs.Prelude.{⊤};
+
+    ghost gives_text = { λ _ _ _. ⊤ };
+
+    fn open_text(&self, path: &str) -> io::Result<fs::File> {
+        fs::File::open(self.rt, path)
+    }
+}
+
+/// What is known of a copy that was opened is what `SqlStore::open` says. That it holds what the file at the path holds
+/// is not among it: that is trusted of the calls below (docs/CHECKING.md).
+impl Shows<SqlStore<FileStore<File>>, ShowError> for Files<'_> {
+    ghost gives_copy = { λ _ _ answer. OpensStore answer over_files (λ s. s.tables) (λ s. s.counts) };
+
+    fn open_copy(self, path: &str) -> Result<SqlStore<FileStore<File>>, ShowError> {
+        let copy = copy_aside(self.rt, path)?;
+        let opened = SqlStore::open(self.rt, copy.path());
+        // The store has its files open, and wants their names no more.
+        copy.remove(self.rt);
+        match opened {
+            Ok(store) => Ok(store),
+            Err(error) => Err(ShowError::Open(error)),
+        }
     }
 }
 

@@ -11,7 +11,7 @@ pub returns-in-Ok-texts-clause-told : goal.returns-in-Ok-texts-clause-told
 returns-in-Ok-texts-clause-told g c =
     let same : words_behind c.deref.result.now ≡ words_behind (into_iter_items c.in-Ok.arguments) =
     ap words_behind (c.deref.ensures.value ∙ c.in-Ok-texts.ensures) in
-    rw c.in-Ok.is (told_of_same _ _ _ _ _ _ _ _ _ _ _ same c.run_texts.ensures.told)
+    rw c.in-Ok.is (told_of_same _ _ _ _ _ _ _ _ _ _ _ _ _ _ same c.run_texts.ensures.told)
 
 pub returns-in-Ok-texts-clause-wrong_words : goal.returns-in-Ok-texts-clause-wrong_words
 returns-in-Ok-texts-clause-wrong_words g c =

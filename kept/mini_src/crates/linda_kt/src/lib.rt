@@ -1,0 +1,7 @@
+//! Mini.
+#![tactic(auto)]
+
+mod grammar;
+mod words;
+
+pub use words::{read_words, refuse_bytes};
