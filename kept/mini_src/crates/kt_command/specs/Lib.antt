@@ -1,3 +1,0 @@
-pub mod Command
-pub mod Asking
-pub mod Silence

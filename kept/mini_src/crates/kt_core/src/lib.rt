@@ -1,6 +1,0 @@
-//! Mini.
-#![tactic(auto)]
-
-mod start;
-
-pub use start::Start;

@@ -1,6 +1,0 @@
-//! Mini.
-#![tactic(auto)]
-
-mod running;
-
-pub use running::Output;

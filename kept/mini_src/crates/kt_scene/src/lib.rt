@@ -1,4 +1,0 @@
-//! Mini.
-#![tactic(auto)]
-
-pub use kt_core::Start;

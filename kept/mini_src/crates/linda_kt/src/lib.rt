@@ -1,7 +1,0 @@
-//! Mini.
-#![tactic(auto)]
-
-mod grammar;
-mod words;
-
-pub use words::{read_words, refuse_bytes};
