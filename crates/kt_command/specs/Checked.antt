@@ -1,4 +1,5 @@
 -- How the reading of a text ends that is to be read and nothing else.
+-- Cited by checking.rt, specs/Opened.
 use Rattle.std.specs.Prelude.{◌≡◌, ◌≢◌, ◌≤◌, ◌<◌, ℕ, nat_lt, if◌then◌else◌, List, codes, length}
 use Rattle.kt_text.specs.declared.fault.SceneFault.{SceneFault}
 use Rattle.kt_text.specs.declared.fault.SceneError.{SceneError}

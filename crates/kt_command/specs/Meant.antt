@@ -1,4 +1,5 @@
 -- How the question ends what a number or a name means.
+-- Cited by meaning.rt, specs/Opened.
 use Rattle.std.specs.Prelude.{◌≡◌, ◌≢◌, ℕ, List, []}
 use Rattle.kt_scene.specs.Outside.{Writer}
 use Rattle.kt_command.specs.Printed.{Prints}

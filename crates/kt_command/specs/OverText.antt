@@ -1,4 +1,5 @@
 -- How something ends that is done with the scenario in a file.
+-- Cited by request.rt, specs/Opened.
 use Rattle.std.specs.Prelude.{◌≡◌, ℕ, List, Option, Result, Ok, Err}
 use Rattle.kt_scene.specs.Outside.{Reader, Writer}
 use Rattle.kt_scene.specs.declared.source.Outcome.TheVariants.{Open}

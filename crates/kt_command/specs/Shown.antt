@@ -1,4 +1,5 @@
 -- How the showing of a store in a file ends.
+-- Cited by showing.rt, specs/Opened.
 use Rattle.std.specs.Prelude.{◌≡◌, ℕ, Bool, true, false, List, Result, Ok, Err, IsTrue}
 use Rattle.kt_store.specs.Content.{Content}
 use Rattle.kt_store.specs.declared.store.CkptStore.{Ghosts}

@@ -1,4 +1,5 @@
 //! What gives a copy of the store at a path, to be shown.
+//! Cited by request.rt, showing.rt; other crates.
 ghost use Rattle.std.specs.Prelude.{Result};
 ghost use Rattle.kt_command.specs.Command.{Text};
 

@@ -1,6 +1,6 @@
 -- How a scenario of steps is completed: its own steps are made, and then those that the policy gives.
--- Cited by Answered, Going, Stops, completing.rt, going.rt, specs/auxiliary/Going,
---   `completing::complete_returning_store`, `completing::completed_or_store`, `going::make_next`.
+-- Cited by Answered, Onward, Stops, completing.rt, going.rt, specs/auxiliary/Going,
+--   `completing::complete_returning_store`, `completing::completed_or_store`, `going::make_next`; other crates.
 use Rattle.std.specs.Prelude.{◌≡◌, ℕ, ◌+◌, Bool, List, [], ◌∷◌, ◌++◌, length, Option, Some, None, Ok, Err, IsTrue}
 use Rattle.kt_scenario.specs.declared.step.Step.{Step}
 use Rattle.kt_scenario.specs.Scene.{SceneModel}

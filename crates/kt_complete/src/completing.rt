@@ -1,5 +1,5 @@
 //! From the bytes of a scenario of steps that was cut short to the bytes of the journal of its completion.
-//! Cited by no other file of crates/.
+//! Cited by other crates.
 
 ghost use Rattle.std.specs.Prelude.{◌≡◌, Err, IfErr, IfOk, IsTrue, None, OnOk};
 ghost use Rattle.kt_core.specs.Store.{store_value};

@@ -1,4 +1,5 @@
 -- The tokens of arrays.
+-- Cited by `as_json::push_array`, `board_json::push_open`.
 use Rattle.std.proofs.Common.{◌≡◌, ℕ, ◌≤◌, Bool, true, false, cond, List, [], ◌∷◌, ◌++◌, length, map, take, refl, ap, ◌∙◌, append_assoc}
 use Rattle.std.specs.Prelude.{decimal, filter, if◌then◌else◌}
 use Rattle.std.specs.List.{flat_map}

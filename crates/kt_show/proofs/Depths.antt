@@ -1,4 +1,5 @@
 -- What is shown nests far less deep than a reader follows.
+-- Cited by `showing_json::text_of`.
 use Rattle.std.proofs.Common.{◌≡◌, ℕ, ◌+◌, ◌≤◌, List, [], ◌∷◌, map, Option, None, Some, sym, ap, ◌∙◌, arith, append-nil}
 use Rattle.std.specs.Prelude.{option_and_then}
 use Rattle.json.specs.Json.{Json, document, if_last, max_depth, value}

@@ -1,4 +1,5 @@
 -- What was read of a store, as JSON, is what it holds, as JSON.
+-- Cited by `showing_json::read_held`.
 use Rattle.std.proofs.Common.{◌≡◌, ℕ, Bool, true, false, cond, List, [], ◌∷◌, map, refl, ap, ◌∙◌}
 use Rattle.std.specs.Prelude.{codes, filter}
 use Rattle.std.specs.List.{flat_map, range_with_len}

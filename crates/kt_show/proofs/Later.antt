@@ -1,5 +1,6 @@
 -- One reading after another.
--- Cited by `board::tell_below`, `node::push_nodes`, `node::row_of`, `showing::gather_stored`.
+-- Cited by `board::tell_below`, `node::push_nodes`, `node::row_of`, `showing::gather_stored`,
+--   `showing_json::read_held`, `showing_json::read_rows`.
 use Rattle.std.proofs.Common.{rules, ◌≡◌, ℕ, zero, suc, ◌+◌, ◌<◌, length, get_or, take, List, ◌++◌, append-nil, append_assoc, add-one}
 use Rattle.std.proofs.Common.{Ok, Err, sym, ap, ◌∙◌, subst, arith}
 use Rattle.std.specs.Prelude.{false, IsErrOf, IsTrue}

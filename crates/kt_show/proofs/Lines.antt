@@ -1,6 +1,7 @@
 -- Lines that are pushed one behind the other.
--- Cited by Later, `board::push_instances`, `board::push_told`, `node::push_permanent`, `node::push_tentative`,
---   `state::push_served`, `state::push_tuples`, `state::push_unanswered`, `state::push_waiting`, `state::push_worker`.
+-- Cited by Later, Objects, `as_json::push_array`, `board::push_instances`, `board::push_told`,
+--   `board_json::push_open`, `node::push_permanent`, `node::push_tentative`, `state::push_served`,
+--   `state::push_tuples`, `state::push_unanswered`, `state::push_waiting`, `state::push_worker`.
 use Rattle.std.proofs.Common.{◌≡◌, ℕ, ◌+◌, ◌<◌, List, ◌++◌, length, get_or, take, ap, ◌∙◌, sym, append_assoc}
 use Rattle.std.specs.List.{flat_map}
 use Rattle.std.proofs.lemmas.List.{flat_map_more, take_more}

@@ -1,4 +1,7 @@
 -- The tokens of objects: each member stands behind those before it.
+-- Cited by `CkptAsJson::push_to`, `NodeRowAsJson::push_to`, `ShardStateAsJson::push_to`, `TentativeAsJson::push_to`,
+--   `ToldAsJson::push_to`, `Tuple2U8CachedReplyAsJson::push_to`, `Tuple2U8RequestAsJson::push_to`,
+--   `WorkerStateAsJson::push_to`, `showing_json::push_held`.
 use Rattle.std.proofs.Common.{◌≡◌, List, [], ◌∷◌, ◌++◌}
 use Rattle.json.specs.Token.{Token, begin_object, end_object}
 use Rattle.kt_show.proofs.Lines.{then_more}

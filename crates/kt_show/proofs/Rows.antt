@@ -1,5 +1,5 @@
 -- What is read of the nodes that have a row, one after the other, are their rows.
--- Cited by `node::push_nodes`, `node::row_of`.
+-- Cited by `node::push_nodes`, `node::row_of`, `showing_json::read_rows`.
 use Rattle.std.proofs.Common.{◌≡◌, ℕ, suc, Bool, true, false, cond, List, [], ◌∷◌, ◌++◌, map, All, AllPairs, length, take, Option, Some, refl, sym, ap, ◌∙◌, arith}
 use Rattle.std.specs.List.{find, flat_map}
 use Rattle.kt_tuple.specs.declared.node.NodeId.{NodeId}

@@ -1,4 +1,8 @@
 -- What a store holds, as one JSON value. `Json` and its text are those of the crate `json`.
+-- Cited by Arrays, Depths, Helds, as_json.rt, board_json.rt, node_json.rt, showing_json.rt, specs/auxiliary/ToldJson,
+--   `CkptAsJson::push_to`, `NodeRowAsJson::push_to`, `ShardStateAsJson::push_to`, `TentativeAsJson::push_to`,
+--   `ToldAsJson::push_to`, `Tuple2U8CachedReplyAsJson::push_to`, `Tuple2U8RequestAsJson::push_to`,
+--   `WorkerStateAsJson::push_to`, `showing_json::push_held`, `showing_json::read_held`; other crates.
 use Rattle.std.specs.Prelude.{◌≡◌, ℕ, ◌+◌, List, [], ◌∷◌, codes, decimal, map, filter, Option, None, Some}
 use Rattle.std.specs.Fmt.{signed_decimal}
 use Rattle.std.specs.Str.{IsUtf8}

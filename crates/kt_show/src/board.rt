@@ -1,5 +1,5 @@
 //! The board of a store.
-//! Cited by showing.rt.
+//! Cited by board_json.rt, showing.rt, showing_json.rt.
 
 ghost use Rattle.std.specs.Prelude.{◌≡◌, ◌++◌, OnOk};
 ghost use Rattle.std.specs.List.{flat_map, range_with_len};

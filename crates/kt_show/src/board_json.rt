@@ -1,4 +1,5 @@
 //! The board of a store, as JSON.
+//! Cited by showing_json.rt; whoever calls the trait `AsJson`.
 
 ghost use Rattle.std.specs.Prelude.{◌≡◌, ◌++◌, map, OnOk};
 ghost use Rattle.json.specs.Tree.{json_tokens};

@@ -1,5 +1,5 @@
 //! What a store holds of a node.
-//! Cited by showing.rt.
+//! Cited by showing.rt, showing_json.rt.
 
 ghost use Rattle.std.specs.Prelude.{◌≡◌, ◌++◌, OnOk};
 ghost use Rattle.std.specs.List.{flat_map};

@@ -1,4 +1,5 @@
 //! What a store holds of a node, as JSON.
+//! Cited by as_json.rt; whoever calls the trait `AsJson`.
 
 ghost use Rattle.std.specs.Prelude.{◌≡◌, ◌∷◌, ◌++◌, OnOk};
 ghost use Rattle.json.specs.Token.{key};

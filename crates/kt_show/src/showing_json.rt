@@ -1,4 +1,5 @@
 //! What a store holds, as JSON.
+//! Cited by other crates.
 
 ghost use Rattle.std.specs.Prelude.{◌≡◌, [], ◌∷◌, ◌++◌, false, IfErr, IfOk, IsErrOf, IsTrue, OnOk};
 ghost use Rattle.json.specs.Tree.{json_tokens};

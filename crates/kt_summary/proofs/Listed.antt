@@ -1,4 +1,5 @@
 -- What waits is listed, and nothing else is.
+-- Cited by `laws::what_waits_is_found`.
 use Rattle.std.proofs.Common.{◌≡◌, ℕ, zero, suc, ◌+◌, ◌≤◌, ◌<◌, Bool, true, false, List, [], ◌∷◌, ◌++◌, map, length, slice_get, All, Contains, IsTrue, nat_le}
 use Rattle.std.proofs.Common.{Option, Some, None, is_some, if◌then◌else◌, refl, sym, ap, subst, ◌∙◌, arith, flat_map}
 use Rattle.std.specs.List.{range_with_len}

@@ -1,4 +1,5 @@
 -- Steps made once more: what they lead to, and which of them made each note.
+-- Cited by Making, remaking.rt.
 use Rattle.std.specs.Prelude.{◌≡◌, ◌<◌, ◌≤◌, ◌-◌, ℕ, List, take, length, Some, slice_get, Ok}
 use Rattle.kt_scenario.specs.declared.step.Step.{Step}
 use Rattle.kt_store.specs.Content.{Content}

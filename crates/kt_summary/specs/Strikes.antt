@@ -1,4 +1,5 @@
 -- By which step a fault line struck: the first with which it is spent.
+-- Cited by Marks, Noting, laws.rt, strikes.rt.
 use Rattle.std.specs.Prelude.{◌≡◌, ◌≤◌, ◌-◌, ℕ, Bool, true, false, List, map, take, length, slice_get}
 use Rattle.std.specs.Prelude.{Option, None, Some}
 use Rattle.kt_scenario.specs.declared.step.Step.{Step}

@@ -1,4 +1,5 @@
 //! How each check and each rollback ended, in words.
+//! Cited by ending.rt.
 
 use crate::names::{MAX_TOLD, Name, push_rest};
 use kt_core::Step;

@@ -1,4 +1,5 @@
 //! What a replay or a run came to, in a few lines.
+//! Cited by other crates.
 
 use crate::checks::{begun_count, push_checks};
 use crate::faults::push_faults;

@@ -1,4 +1,5 @@
 //! Which fault lines struck, in words.
+//! Cited by ending.rt.
 
 use crate::names::{MAX_TOLD, Name, push_rest};
 use crate::strikes::{FaultEnd, struck};

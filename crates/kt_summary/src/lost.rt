@@ -1,4 +1,5 @@
 //! Which services were lost, and by what, in words.
+//! Cited by ending.rt.
 
 use crate::names::{MAX_TOLD, Name, push_op, push_rest};
 use kt_core::Step;

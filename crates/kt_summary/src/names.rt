@@ -1,4 +1,5 @@
 //! Names and numbers as people write them.
+//! Cited by checks.rt, faults.rt, lost.rt, workers.rt.
 
 use kt_tuple::{NodeId, Op};
 use std::alloc::{AllocError, Global};

@@ -1,5 +1,6 @@
 //! Steps made once more, from the opening of their scene: so it is known which step wrote each note, and which verdict
 //! each check and each rollback got.
+//! Cited by ending.rt.
 
 ghost use Rattle.std.specs.Prelude.{◌≡◌, ◌≢◌, [], IfOk, IfSome, IsNone, IsTrue, Ok};
 ghost use Rattle.kt_model.specs.Reached.{opening};

@@ -1,4 +1,5 @@
 //! Which fault lines struck, and by which step.
+//! Cited by faults.rt.
 
 ghost use Rattle.std.specs.Prelude.{◌≡◌, ◌≤◌, ℕ, IfOk, Some, length, map, slice_get, OnOk};
 ghost use Rattle.kt_summary.specs.Strikes.{IsOutcome, faults_asked, faults_told};

@@ -1,4 +1,5 @@
 //! Which workers finished, and which wait, for what and at which shards.
+//! Cited by workers.rt.
 
 ghost use Rattle.std.specs.Prelude.{◌≡◌, ◌++◌, IfOk, OnOk};
 ghost use Rattle.std.specs.List.{flat_map};

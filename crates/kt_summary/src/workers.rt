@@ -1,4 +1,5 @@
 //! Who finished and who waits, in words.
+//! Cited by ending.rt.
 
 use crate::names::{Name, push_op};
 use crate::waits::{Wait, WorkerEnd, waiting, worker_end};

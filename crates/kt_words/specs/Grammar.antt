@@ -1,5 +1,5 @@
 -- The commands and their long options.
--- Cited by Growing, command_table.rt, completing.rt, page.rt.
+-- Cited by Growing, command_table.rt, completing.rt, page.rt; other crates.
 use Rattle.std.specs.Prelude.{ℕ, List, [], ◌∷◌, All, codes, map}
 use Rattle.std.specs.Str.Iter.{HasSubslice}
 use Rattle.kt_words.specs.declared.words.CommandWords.{CommandWords}

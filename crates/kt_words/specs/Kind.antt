@@ -1,4 +1,5 @@
 -- What stands for a value in texts, and what the value is then.
+-- Cited by words.rt.
 use Rattle.std.specs.Borrow.{Bor}
 use Rattle.std.specs.Prelude.{ℕ, Bool, if◌then◌else◌, ◌||◌, List, Option, None, Some, codes}
 use Rattle.kt_words.specs.declared.words.ValueKind.{ValueKind}

@@ -1,6 +1,6 @@
 -- What is written: printable ASCII and line feeds.
 -- Cited by Growing, Tables, bash.rt, command_table.rt, completing.rt, escape.rt, fish.rt, page.rt, page_commands.rt,
---   specs/auxiliary/Growth, specs/auxiliary/Parts, specs/auxiliary/Status, text.rt, zsh.rt.
+--   specs/auxiliary/Growth, specs/auxiliary/Parts, specs/auxiliary/Status, text.rt, zsh.rt; other crates.
 use Rattle.std.specs.Borrow.{Bor}
 use Rattle.std.specs.Int.{is_in_range}
 use Rattle.std.specs.List.{list_all}

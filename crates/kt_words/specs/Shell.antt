@@ -1,5 +1,5 @@
 -- The shells and their names.
--- Cited by shell.rt.
+-- Cited by shell.rt; other crates.
 use Rattle.std.specs.Prelude.{◌≡◌, ℕ, if◌then◌else◌, List, Option, None, Some, codes, refl}
 use Rattle.kt_words.specs.declared.shell.Shell.{Shell}
 use Rattle.kt_words.specs.declared.shell.Shell.TheVariants.{Bash, Zsh, Fish}

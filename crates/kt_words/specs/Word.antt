@@ -1,4 +1,5 @@
 -- Words of the command line.
+-- Cited by specs/Kind, specs/Shell.
 use Rattle.std.specs.Cmp.Lexicographic.{pointwise}
 use Rattle.std.specs.Prelude.{ℕ, Bool, List, nat_eq}
 

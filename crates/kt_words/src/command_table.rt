@@ -1,5 +1,5 @@
 //! The program and its commands.
-//! Cited by completing.rt, page.rt.
+//! Cited by completing.rt, page.rt; other crates.
 
 ghost use Rattle.std.specs.Prelude.{◌≡◌, IsTrue, map};
 ghost use Rattle.std.specs.List.{list_all};

@@ -1,5 +1,5 @@
 //! Scripts by which shells complete the words.
-//! Cited by no other file of crates/.
+//! Cited by other crates.
 
 ghost use Rattle.std.specs.Prelude.{All, IfOk, OnOk};
 ghost use Rattle.kt_words.specs.Grammar.{HasWords, grammar};

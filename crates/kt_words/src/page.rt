@@ -1,5 +1,5 @@
 //! The manual page.
-//! Cited by no other file of crates/.
+//! Cited by other crates.
 #![tactic(auto, using(crate::proofs::Growing::growing))]
 
 ghost use Rattle.std.specs.Prelude.{All, IfOk, OnOk};

@@ -1,5 +1,5 @@
 //! The shells that complete words.
-//! Cited by completing.rt, tests.rt.
+//! Cited by completing.rt, tests.rt; other crates.
 
 ghost use Rattle.std.specs.Prelude.{◌≡◌};
 ghost use Rattle.kt_words.specs.Shell.{name_of, shell_of};

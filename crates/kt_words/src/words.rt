@@ -1,6 +1,6 @@
 //! What the table is made of.
 //! Cited by argument_table.rt, bash.rt, command_table.rt, completing.rt, fish.rt, option_table.rt, page.rt,
-//!   page_commands.rt, zsh.rt.
+//!   page_commands.rt, zsh.rt; other crates.
 
 ghost use Rattle.std.specs.Prelude.{◌≡◌};
 ghost use Rattle.kt_words.specs.Kind.{is_file_name, kind_of};

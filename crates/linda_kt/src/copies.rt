@@ -2,6 +2,7 @@
 //!
 //! What a killed program left is to stay as it is, and opening a store may change its file. So the file and what lies
 //! beside it are copied into a folder of their own, among the files that are temporary.
+//! Cited by copies_tests.rt, files.rt.
 
 use kt_sql::SqlOpenError;
 use os::RangeLock;

@@ -1,4 +1,5 @@
 //! A copy of the store in a file is opened, and the file stays as it is.
+//! Cited by no other file of crates/.
 use crate::copies::{ShowError, StoreCopy};
 use crate::files::Files;
 use kt_command::Shows;

@@ -1,5 +1,5 @@
 //! The program over an opener that notes what it is asked.
-//! Cited by whoever calls the trait `Carries`, `Opens` or `Shows`.
+//! Cited by whoever calls the trait `Carries` or `Opens` or `Shows` or `Texts`.
 use crate::program::run_program;
 use crate::tests::{NOBODY, PUT_AND_TAKE, PUT_AND_TAKE_REPORT};
 use kt_command::{Carries, Opens, Shows, Texts};

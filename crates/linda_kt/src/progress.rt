@@ -1,5 +1,5 @@
 //! What a person sees while a command takes long.
-//! Cited by main.rt.
+//! Cited by no other file of crates/.
 
 use crate::run;
 use kt_command::{MEMORY, Terminals};

@@ -1,5 +1,5 @@
 -- What making the policy's steps answers.
--- Cited by Going, Stops, completing.rt, going.rt, `completing::begin_and_complete`, `completing::completed_told`,
+-- Cited by Onward, Stops, completing.rt, going.rt, `completing::begin_and_complete`, `completing::completed_told`,
 --   `going::go_on`.
 use Rattle.std.specs.Prelude.{◌≡◌, ℕ, ◌+◌, ◌≤◌, List, ◌++◌, length, Option, Some, None, Result, Ok, Err, IsTrue}
 use Rattle.kt_scenario.specs.declared.step.Step.{Step}

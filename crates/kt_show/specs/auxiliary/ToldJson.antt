@@ -1,4 +1,6 @@
 -- What was told of the instances and read of the nodes, as JSON.
+-- Cited by Arrays, Depths, Helds, board_json.rt, showing_json.rt, `board_json::push_open`, `showing_json::push_held`,
+--   `showing_json::read_held`, `showing_json::text_of`.
 use Rattle.std.specs.Prelude.{ℕ, List, [], ◌∷◌, codes, decimal, map, filter, if◌then◌else◌}
 use Rattle.json.specs.Json.{Json}
 use Rattle.json.specs.Token.{Token, number}

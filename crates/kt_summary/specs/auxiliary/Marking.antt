@@ -1,4 +1,5 @@
 -- What the code keeps of each fault line, step after step.
+-- Cited by Noting, strikes.rt, `strikes::struck`, `strikes::unstruck`.
 use Rattle.std.specs.Prelude.{◌≡◌, ℕ, Bool, true, false, List, length, Option, None, Some, slice_get}
 use Rattle.kt_scenario.specs.declared.step.Step.{Step}
 use Rattle.kt_scenario.specs.declared.step.Step.TheVariants.{Fail, Check}

@@ -1,4 +1,5 @@
 -- Which refusals of a step are for want of memory, over a store in memory.
+-- Cited by Making, remaking.rt.
 use Rattle.std.specs.Prelude.{Bool, true, false}
 use Rattle.kt_model.specs.declared.error.StepError.{StepError}
 use Rattle.kt_model.specs.declared.error.StepError.TheVariants as refusals
