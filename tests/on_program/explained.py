@@ -122,6 +122,6 @@ def explained():
     yield from mistakes()
     yield from refused_steps()
     yield from refused_stores()
-    wanted = b"read\n  standard input could not be read: is it a folder, or was it closed?\n"
+    wanted = b"read\n  the scenario could not be read: is it a folder, or was standard input closed?\n"
     yield tell("explained: a folder as standard input", (b"", wanted, 7), start(["replay", "--explain"], FOLDER, b""))
     yield tell("a scenario without a fault", start(["replay"], SCENE + b"end\n", b""), start(["replay", "--explain"], SCENE + b"end\n", b""))

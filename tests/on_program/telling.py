@@ -3,11 +3,16 @@
 import hashlib
 import json
 import os
+import re
+import shutil
 import sqlite3
+import subprocess
 import tempfile
+import time
 
-from on_program.starting import CLOSED, FOLDER, FULL, ROOT, scenario, start, tell, told
-from on_program.texts import PUT_AND_TAKE
+from on_program.starting import CLOSED, FOLDER, FULL, PIPE, PROGRAM, ROOT, SECONDS, scenario, start, tell, told
+from on_program.stores import held
+from on_program.texts import A_SHARD_FAILS, PUT_AND_TAKE
 
 SCENES = f"{ROOT}/scenarios"
 
@@ -52,8 +57,9 @@ def digest(folder):
     """Each file of the folder and what it holds."""
     found = {}
     for name in sorted(os.listdir(folder)):
-        with open(f"{folder}/{name}", "rb") as file:
-            found[name] = hashlib.sha256(file.read()).hexdigest()
+        if os.path.isfile(f"{folder}/{name}"):
+            with open(f"{folder}/{name}", "rb") as file:
+                found[name] = hashlib.sha256(file.read()).hexdigest()
     return found
 
 
@@ -66,56 +72,140 @@ def shown():
         words, errors, status = start(["show", store], CLOSED, b"")
         yield tell("show: a store in words", (True, b"", 0), (words.endswith(b"\n") and words.isascii(), errors, status))
         text, errors, status = start(["show", "--json", store], CLOSED, b"")
-        content = json.loads(text)
-        with sqlite3.connect(f"file:{store}?immutable=1", uri=True) as connection:
-            nodes = connection.execute("select count(*) from kt_node").fetchone()[0]
-            instances = connection.execute("select count(*) from kt_board").fetchone()[0]
-        counted = (len(content["nodes"]), len(content["board"]))
-        yield tell("show: a store as JSON", ((nodes, instances), b"", 0), (counted, errors, status))
+        yield tell("show: the option behind the file", (text, b"", 0), start(["show", store, "--json"], CLOSED, b""))
+        yield from compared(store, json.loads(text), words, (errors, status))
         yield told("show: the store is as it was, and nothing lies beside it", before, digest(folder))
-        tuples = [tuple for node in content["nodes"] for tuple in (node.get("permanent") or {}).get("tuples", [])]
-        report = start(["run", "--resume", "--store", store, f"{SCENES}/checks_and_failures.scn"], CLOSED, b"")
-        yield told("show: tuples are lists of values", True, all(isinstance(tuple, list) for tuple in tuples))
-        yield told("show: the store goes on", 0, report[2])
         yield tell("show: a full output", (None, b"write\n", 7), (None, *start(["show", store], b"", FULL)[1:]))
-        notes = f"{folder}/notes.txt"
-        with open(notes, "w", encoding="ascii") as file:
-            file.write("these are notes, and no database\n" * 40)
-        open(f"{folder}/empty.db", "wb").close()
-        before = digest(folder)
-        for name, path, said in (
-            ("a file that is not there", f"{folder}/no.db", b"store: there is no such file\n"),
-            ("a folder", FOLDER, b"store: it is a folder\n"),
-            ("a device", "/dev/null", b"store: it is no regular file\n"),
-            ("a text", notes, b"store: Damaged\n"),
-        ):
-            yield tell(f"show: {name}", (b"", said, 5), start(["show", path], b"", b""))
-        said, errors, status = start(["show", f"{folder}/empty.db"], b"", b"")
-        yield tell("show: an empty file", (b"nothing is stored\n", b"", 0), (said, errors, status))
-        yield told("show: none of these is touched", before, digest(folder))
+        report = start(["run", "--resume", "--store", store, f"{SCENES}/checks_and_failures.scn"], CLOSED, b"")
+        yield told("show: the store goes on", 0, report[2])
+        yield from not_shown(folder)
+        yield from temporary(folder, store)
+
+
+def compared(store, content, words, ended):
+    """The JSON has a node for each row, with each tuple of the shards, and each instance; the words have as many."""
+    with sqlite3.connect(f"file:{store}?immutable=1", uri=True) as connection:
+        nodes = connection.execute("select count(*) from kt_node").fetchone()[0]
+        instances = connection.execute("select count(*) from kt_board").fetchone()[0]
+    counted = (len(content["nodes"]), len(content["instances"]))
+    yield tell("show: a store as JSON", ((nodes, instances), b"", 0), (counted, *ended))
+    shards = [(node["permanent"] or {}).get("shard") for node in content["nodes"]]
+    tuples = [values for shard in shards if shard for values in shard["tuples"]]
+    yield told("show: tuples are lists of values", True, bool(tuples) and all(isinstance(values, list) for values in tuples))
+    lines = words.decode().splitlines()
+    in_words = [sum(line.startswith(head) for line in lines) for head in ("node ", "    tuple ", "  instance ", "open: ")]
+    tentative = [(node["tentative"] or {}).get("checkpoint", {}).get("shard") for node in content["nodes"]]
+    also = sum(len(shard["tuples"]) for shard in tentative if shard)
+    wanted = [nodes, len(tuples) + also, instances, len(content["open"])]
+    yield told("show: the words have as many nodes, tuples, instances and open ones", wanted, in_words)
+
+
+def not_shown(folder):
+    """What is no store that can be shown, of which nothing is touched either."""
+    notes = f"{folder}/notes.txt"
+    with open(notes, "w", encoding="ascii") as file:
+        file.write("these are notes, and no database\n" * 40)
+    open(f"{folder}/empty.db", "wb").close()
+    shutil.copy(f"{ROOT}/tests/version_1.db", f"{folder}/old.db")
+    before = digest(folder)
+    for name, path, said in (
+        ("a file that is not there", f"{folder}/no.db", b"store: there is no such file\n"),
+        ("a file in a folder that is not there", f"{folder}/no/a.db", b"store: there is no such file\n"),
+        ("no name", "", b"store: there is no such file\n"),
+        ("a folder", FOLDER, b"store: it is a folder\n"),
+        ("a device", "/dev/null", b"store: it is no regular file\n"),
+        ("a text", notes, b"store: Damaged\n"),
+        ("a store of version 1", f"{folder}/old.db", b"store: Version\n"),
+    ):
+        yield tell(f"show: {name}", (b"", said, 5), start(["show", path], b"", b""))
+        yield tell(f"show: {name}, as JSON", (b"", said, 5), start(["show", "--json", path], b"", b""))
+    for words, said in ((["show"], b"nothing is stored\n"), (["show", "--json"], b'{"nodes":[],"instances":[],"open":[]}')):
+        yield tell("show: an empty file", (said, b"", 0), start([*words, f"{folder}/empty.db"], b"", b""))
+    yield told("show: none of these is touched", before, digest(folder))
+    busy = f"{folder}/busy.db"
+    other = subprocess.Popen([PROGRAM, "replay", "--store", busy], stdin=PIPE, stdout=PIPE, stderr=PIPE)
+    until = time.monotonic() + SECONDS
+    while not any(held(busy)) and time.monotonic() < until:
+        time.sleep(0.01)
+    in_use = (b"", b"store: a program has it open\n", 5)
+    yield tell("show: a store that another program has open", in_use, start(["show", busy], b"", b""))
+    said, errors = other.communicate(scenario("put_and_take"), timeout=SECONDS)
+    yield tell("show: the other program", (PUT_AND_TAKE, b"", 0), (said, errors, other.returncode))
+
+
+def temporary(folder, store):
+    """The copy lies among the temporary files, and is gone when the program has ended."""
+    place = f"{folder}/temporary"
+    os.mkdir(place)
+    for name, path, want in (
+        ("in a folder of one's own", place, (None, b"", 0)),
+        ("where there is no folder", f"{place}/none", (None, b"store: it can't be copied to the folder for temporary files\n", 5)),
+    ):
+        _, errors, status = start([f"TMPDIR={path}", PROGRAM, "show", store], b"", b"", program="/usr/bin/env")
+        yield tell(f"show: the copy {name}", want, (None, errors, status))
+    yield told("show: no copy is left", [], os.listdir(place))
+
+
+# What scenarios of steps come to, each worked out by hand.
+ENDINGS = [
+    ("two_takers", [
+        'w1 waits for the answer to its request 1, in ("t"), at s1',
+        'w2 waits for the answer to its request 1, in ("t"), which no shard holds as waiting',
+        'w3 waits for the answer to its request 1, out ("t"), which no shard holds as waiting',
+        "no service was lost",
+    ]),
+    ("checkpoint_of_two", [
+        "finished: w1",
+        "no service was lost",
+        "the check that w1 began (step 5) got Yes",
+    ]),
+    ("shard_fails", [
+        'w1 waits for the answer to its request 1, out ("a", 1), which no shard holds as waiting',
+        "1 service was lost:",
+        'w1\'s request 1, out ("a", 1) at s1: lost when s1 failed (step 5)',
+        "the rollback that s1 began (step 6) got Yes",
+    ]),
+]
+# Of the run of `a_shard_fails`, whose threads choose the order of steps.
+RUN = re.compile(
+    rb"  finished: w1\n  line 12: fail s1 after 3: struck by step \d+\n  4 services were lost:\n"
+    rb"(?:  w1's request \d, [^\n]+ at s[12]: lost when \w\d (?:failed|rolled back) \(step \d+\)\n){4}"
+    rb"(?:  the rollback that s1 began \(step \d+\) got (?:Yes|No)\n)+"
+)
 
 
 def endings():
-    """What a scenario came to, on standard error, behind its report."""
-    for words, name in ((["replay"], "two_takers"), (["run"], "a_shard_fails"), (["run", "--journal"], "a_shard_fails")):
+    """What a scenario came to, on standard error, behind its report, which stays as it is."""
+    for name, said in ENDINGS:
         text = scenario(name)
-        plain = start(words, text, b"")
-        said, errors, status = start([*words, "--explain"], text, b"")
-        lines = errors.decode().splitlines()
-        # A journal tells of one run among many, so its first line alone is compared.
-        same = said == plain[0] if "--journal" not in words else said.startswith(plain[0].split(b"\n")[0])
-        yield told(f"explained: the output of {' '.join(words)} stays", True, same)
-        yield told(f"explained: {' '.join(words)} is told of", (True, 0),
-                   (bool(lines) and all(line.startswith("  ") for line in lines), status))
-        _, errors, status = start([*words, "--json"], text, b"")
-        told_as = json.loads(errors)
-        yield told(f"explained as JSON: {' '.join(words)}", (0, True),
-                   (told_as["status"], 0 < len(told_as["explanation"])))
-    _, errors, _ = start(["replay", "--json"], b"", b"")
-    line, _, rest = errors.partition(b"\n")
-    yield told("a fault as JSON", (b"line 1: 7 End", 3), (line, json.loads(rest)["status"]))
-    _, errors, _ = start(["run", "--explain"], scenario("a_shard_fails"), b"")
-    yield told("explained: a line that struck", True, b"fail s1 after 3" in errors)
+        report = start(["replay"], text, b"")
+        lines = "".join(f"  {line}\n" for line in said).encode()
+        yield tell(f"explained: the end of {name}", (report[0], lines, 0), start(["replay", "--explain"], text, b""))
+        whole = json.dumps({"status": 0, "explanation": said}, separators=(",", ":")) + "\n"
+        for words in (["replay", "--json"], ["replay", "--explain", "--json"]):
+            yield tell(f"explained as JSON: the end of {name}", (report[0], whole.encode(), 0), start(words, text, b""))
+    text = scenario("a_shard_fails")
+    said, errors, status = start(["run", "--explain"], text, b"")
+    yield told("explained: the end of a run", (A_SHARD_FAILS, True, 0), (said, bool(RUN.fullmatch(errors)), status))
+    said, errors, status = start(["run", "--journal", "--explain"], text, b"")
+    # A journal tells of one run among many, so its first line alone is compared.
+    is_journal = said.startswith(b"# " + A_SHARD_FAILS.split(b"\n")[0])
+    yield told("explained: the end of a run with its journal", (True, True, 0), (is_journal, bool(RUN.fullmatch(errors)), status))
+    nothing = b'{"status":0,"explanation":[]}\n'
+    yield tell("as JSON: a check has nothing to say", (b"faults 1\n", nothing, 0), start(["check", "--json"], text, b""))
+    yield tell("explained: nor has it in words", (b"faults 1\n", b"", 0), start(["check", "--explain"], text, b""))
+    said, errors, status = start(["replay", "--json"], b"linda-kt 2\n", b"")
+    explanation = ["linda-kt 2", "^", "this program reads version 1: write `linda-kt 1`"]
+    lines = b"line 1: 1 Header\n" + json.dumps({"status": 3, "explanation": explanation}, separators=(",", ":")).encode() + b"\n"
+    yield tell("as JSON: a fault", (b"", lines, 3), (said, errors, status))
+    with tempfile.TemporaryDirectory() as folder:
+        store = f"{folder}/a.db"
+        start(["replay", "--store", store], scenario("checkpoint_of_two"), b"")
+        # The nodes are down since the stop, and no step was made.
+        resumed = cut_short(scenario("checkpoint_of_two"), 0)
+        wanted = b"  w1 is down\n  no service was lost\n"
+        got = start(["resume", "--store", store, "--explain"], resumed, b"")
+        yield tell("explained: the end of a resumed world", (None, wanted, 0), (None, *got[1:]))
 
 
 def scripts():

@@ -35,7 +35,7 @@ pub(crate) fn finding_at_end<'a>(case: &Case<'a>) -> Finding<'a> {
 fn missing(case: &Case<'_>) -> Reason {
     match case.part {
         Part::Title if case.text.is_empty() => Reason::Said(
-            "nothing was read: the scenario comes on standard input, as in `linda_kt replay < FILE`",
+            "nothing was read: name the scenario's file, as in `linda_kt replay FILE`, or give it to standard input",
         ),
         Part::Title => Reason::Said("there are remarks alone: `linda-kt 1` is wanted"),
         Part::Shards => Reason::Limit(Limit::ShardsLine),

@@ -42,7 +42,7 @@ fn in_title(alloc: Global, line: &[u8]) -> Result<Finding<'_>, AllocError> {
 /// A text of another kind, told by its first bytes.
 pub(crate) fn of_other_text(line: &[u8]) -> Option<Finding<'_>> {
     let text = if line.starts_with(b"SQLite format 3") {
-        "this is a database: give it to `--store`, and a scenario to standard input"
+        "this is a database: give it to `--store`, and a scenario as the file or on standard input"
     } else if line.starts_with(b"\xef\xbb\xbf") {
         "a byte order mark stands before line 1: save the text as ASCII, without the mark"
     } else if line.starts_with(b"\xff\xfe")

@@ -32,7 +32,7 @@ pub fn explain_fault(alloc: Global, fault: ReplayFault) -> Result<Vec<u8>, Alloc
             writeln!(out, "  {meaning}")?;
         }
         ReplayFault::Read => out.push_str(
-            "  standard input could not be read: is it a folder, or was it closed?\n",
+            "  the scenario could not be read: is it a folder, or was standard input closed?\n",
         )?,
         ReplayFault::Write => out.push_str(
             "  standard output could not be written: is the disk full, or has the reader gone?\n",

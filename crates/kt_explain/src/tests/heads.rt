@@ -46,7 +46,7 @@ pub(crate) static IN_TITLE: &[Row] = &[
     (
         "nothing",
         "",
-        r#"  nothing was read: the scenario comes on standard input, as in `linda_kt replay < FILE`
+        r#"  nothing was read: name the scenario's file, as in `linda_kt replay FILE`, or give it to standard input
 "#,
     ),
     (
@@ -62,7 +62,7 @@ pub(crate) static IN_TITLE: &[Row] = &[
         "SQLite format 3\0\x10\0\x01\x01\n",
         r#"  SQLite format 3\x00\x10\x00\x01\x01
   ^
-  this is a database: give it to `--store`, and a scenario to standard input
+  this is a database: give it to `--store`, and a scenario as the file or on standard input
 "#,
     ),
     (
@@ -78,7 +78,7 @@ pub(crate) static IN_TITLE: &[Row] = &[
         "SQLite format 3\0\x10\0\x01\x01",
         r#"  SQLite format 3\x00\x10\x00\x01\x01
   ^
-  this is a database: give it to `--store`, and a scenario to standard input
+  this is a database: give it to `--store`, and a scenario as the file or on standard input
 "#,
     ),
     (
