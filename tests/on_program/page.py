@@ -143,7 +143,7 @@ def formats_page():
         page = file.read()
     # Blocks of a language, as the statements in SQL, are no input.
     blocks = re.findall(r"^```(\w*)\n(.*?)^```$", page, re.MULTILINE | re.DOTALL)
-    script, text, written, journal = (inside for language, inside in blocks if not language)
+    script, text, written, journal, *_ = (inside for language, inside in blocks if not language)
     yield tell("the page's scenario", (written.encode(), b"", 0), start(["replay"], text.encode(), b""))
     yield from shown_texts(blocks)
     remarks = "".join(line[2:] for line in journal.splitlines(True) if line.startswith("# "))

@@ -134,12 +134,19 @@ impl Explainer {
         if much == Explained::Nothing {
             return;
         }
+        // A standard error that is closed leaves the status alone to tell.
+        if let Some(count) = self.long_journal {
+            let _ = writeln!(
+                errors,
+                "The journal has {count} bytes, and a scenario at most {MAX_TEXT}: it can be read, and not replayed."
+            );
+        }
         let words = if status == DONE {
             &self.ending
         } else {
             &self.words
         };
-        // A standard error that is closed leaves the status alone to tell. Where memory is wanting, nothing is said.
+        // Where memory is wanting, nothing is said. An object is the last line.
         let _ = match telling {
             Telling::Json => match explanation_json(alloc, status, words) {
                 Ok(object) => errors.write_all(&object),
@@ -147,12 +154,6 @@ impl Explainer {
             },
             _ => errors.write_all(words),
         };
-        if let Some(count) = self.long_journal {
-            let _ = writeln!(
-                errors,
-                "The journal has {count} bytes, and a scenario at most {MAX_TEXT}: it can be read, and not replayed."
-            );
-        }
     }
 }
 

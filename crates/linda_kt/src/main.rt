@@ -33,6 +33,8 @@ use kt_scene::{Sink, Source};
 use std::env;
 use std::io::{IsTerminal, Write};
 use std::process::ExitCode;
+use std::sync::Wait;
+use std::thread::Threads;
 
 fn main(rt: HostRuntime) -> ExitCode {
     let terminals = Terminals {
@@ -40,21 +42,26 @@ fn main(rt: HostRuntime) -> ExitCode {
         is_watched: rt.stderr().is_terminal(),
     };
     let status = if terminals.is_watched && !terminals.is_typed {
-        run_with_progress(&rt, terminals)
+        run_with_progress(&rt, &rt, terminals)
     } else {
-        run(&rt, terminals, &mut rt.stderr())
+        run(&rt, &rt, terminals, &mut rt.stderr())
     };
     ExitCode::from(status)
 }
 
-/// Runs the program on the arguments and the streams of its process, and says on `errors` what is to be said there.
-pub(crate) fn run<E: Write>(rt: &HostRuntime, terminals: Terminals, errors: &mut E) -> u8 {
+/// Runs the program on the arguments and the streams of its process, and says on `errors` what is to be said there. By
+/// `rt` files are opened, and by `threads` threads are started.
+pub(crate) fn run<T: Threads + Wait + Sync, E: Write>(
+    rt: &HostRuntime,
+    threads: &T,
+    terminals: Terminals,
+    errors: &mut E,
+) -> u8 {
     let mut reader = Source::new(rt.stdin());
     let mut writer = Sink::new(rt.stdout());
-    // The runtime twice: by the first a file is opened, by the second threads are started.
     program::run_arguments(
         Files::new(rt),
-        rt,
+        threads,
         rt.alloc(),
         env::args(rt),
         &mut reader,

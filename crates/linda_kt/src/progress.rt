@@ -4,12 +4,14 @@
 use crate::run;
 use kt_command::{MEMORY, Terminals};
 use std::io::Write;
+use std::sync::Wait;
 use std::sync::atomic::{AtomicBool, Ordering};
 use std::thread;
+use std::thread::Threads;
 use std::time::{Duration, Instant};
 
-/// How often it is looked whether the command has ended.
-const TICK: Duration = Duration::from_millis(50);
+/// How often it is looked whether the command has ended, in milliseconds.
+const TICK: u64 = 50;
 
 /// Room for the lines of a command on standard error, which are held back while it goes on. More is taken where more is
 /// said.
@@ -17,7 +19,11 @@ const ROOM: usize = 4096;
 
 /// Runs the program for a person who watches standard error, and sees there for how many seconds it has gone on, from
 /// the first full one. What the command says there comes once that is wiped off.
-pub fn run_with_progress(rt: &HostRuntime, terminals: Terminals) -> u8 {
+pub fn run_with_progress<T: Threads + Wait + Sync>(
+    rt: &HostRuntime,
+    threads: &T,
+    terminals: Terminals,
+) -> u8 {
     let mut said = match Vec::with_capacity(rt.alloc(), ROOM) {
         Ok(said) => said,
         Err(_) => {
@@ -27,10 +33,10 @@ pub fn run_with_progress(rt: &HostRuntime, terminals: Terminals) -> u8 {
     };
     let is_done = AtomicBool::new(false);
     let ((), status) = thread::join(
-        rt,
+        threads,
         || show_until(rt, &is_done),
         || {
-            let status = run(rt, terminals, &mut said);
+            let status = run(rt, threads, terminals, &mut said);
             is_done.store(true, Ordering::Release);
             status
         },
@@ -52,7 +58,7 @@ fn show_until(rt: &HostRuntime, is_done: &AtomicBool) {
         if is_done.load(Ordering::Acquire) {
             break;
         }
-        thread::sleep(rt, TICK);
+        thread::sleep(rt, Duration::from_millis(TICK));
         let Ok(elapsed) = begun.elapsed(rt) else {
             break;
         };
