@@ -3,7 +3,9 @@
 Most are one slip in the scenario of docs/FORMATS.md. What once was a mistake and is none any more is shown to be none.
 """
 
+import contextlib
 import os
+import sqlite3
 import subprocess
 import tempfile
 
@@ -224,7 +226,8 @@ def of_stores():
         for path, text in ((short, b"no"), (long, b"no database\n" * 1000)):
             with open(path, "wb") as file:
                 file.write(text)
-        subprocess.run(["sqlite3", other, "CREATE TABLE t (id INTEGER PRIMARY KEY)"], check=True)
+        with contextlib.closing(sqlite3.connect(other)) as tables:
+            tables.execute("CREATE TABLE t (id INTEGER PRIMARY KEY)")
         there = sorted(os.listdir(folder))
         for name, path, line, said in (
             ("no name", "", "store: Device", "the name of the file is empty: write `--store FILE`"),
