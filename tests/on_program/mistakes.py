@@ -262,7 +262,7 @@ def of_database(path):
 # Words that are none. A tip stands below where a word is near.
 WRONG_WORDS = [
     ([], "error: 'linda_kt' requires a subcommand but one was not provided", ""),
-    (["Replay"], "error: unrecognized subcommand 'Replay'", "a similar subcommand exists: 'replay'"),
+    (["Replay"], "error: unrecognized subcommand 'Replay'", "some similar subcommands exist: 'explain', 'replay'"),
     (["replay", "--store"], "error: a value is required for '--store <FILE>' but none was supplied", ""),
     (["--store", "x.db", "replay"], "error: unexpected argument '--store' found", "'replay --store' exists"),
     (["replay", "--store", "a.db", "--store", "b.db"],
@@ -283,7 +283,7 @@ def of_words():
         said, errors, status = start(words, TEXT, b"")
         shown = errors.decode().split("\n")
         yield tell(f"mistake: {words}", (b"", Starts(first), 2), (said, errors, status))
-        yield told(f"mistake: the tip on {words}", (bool(tip), True), (any("tip: " in one for one in shown), tip in errors.decode()))
+        yield told(f"mistake: the tip on {words}", True, not tip or f"  tip: {tip}" in shown)
         yield told(f"mistake: {words} leads to the help", True, "For more information, try '--help'." in shown)
 
 
