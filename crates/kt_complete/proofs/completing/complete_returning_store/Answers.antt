@@ -8,6 +8,7 @@ use Rattle.kt_scene.specs.Journal.{WritesJournal, WritesJournalFront}
 use Rattle.kt_scene.specs.declared.fault.ReplayFault.TheVariants as faults
 use Rattle.kt_complete.specs.Completion.{IsCompletionFault, WritesCompleted, WritesCompletedFront, before_journal}
 use Rattle.kt_complete.proofs.Answered.{is_fault, is_front, is_written, same_store}
+use Rattle.kt_complete.proofs.Stops.{not_the_writers}
 use Rattle.kt_complete.proofs.completing.complete_returning_store.Goals as goal
 
 pub returns-in-Ok-clause-written : goal.returns-in-Ok-clause-written
@@ -63,3 +64,8 @@ returns-in-Ok-clause-fault g c =
 
 pub returns-in-Err-clause-fault : goal.returns-in-Err-clause-fault
 returns-in-Err-clause-fault g c = before_journal c.in-Err.ensures.fault
+
+pub returns-in-Err-clause-front : goal.returns-in-Err-clause-front
+returns-in-Err-clause-front g c = λ failed.
+    let same : c.in-Err.fault ≡ faults.Write = cc in
+    absurd (not_the_writers c.args.start _ _ _ _ c.in-Err.fault c.in-Err.ensures.fault same)

@@ -1,8 +1,8 @@
 use Rattle.std.proofs.Common.{◌≡◌, ap, refl, sym, subst, ◌∙◌, List, ◌++◌, ◌∷◌, []}
-use Rattle.std.specs.Prelude.{Err, None, Option, Some}
+use Rattle.std.specs.Prelude.{None, Option, Some}
 use Rattle.kt_scenario.specs.declared.step.Step.{Step}
 use Rattle.kt_complete.specs.auxiliary.Going.{IsOneMore, MakesNext}
-use Rattle.kt_complete.proofs.Onward.{fewer_left, refused_counted, went_listed, went_more, went_none, went_stays}
+use Rattle.kt_complete.proofs.Onward.{fewer_left, went_listed, went_more, went_none, went_stays}
 use Rattle.kt_complete.proofs.going.go_on.Goals as goal
 
 pub going-init : goal.going-init
@@ -15,7 +15,8 @@ going-smaller g c =
 
 pub going-preserved : goal.going-preserved
 going-preserved g c =
-    let made = subst (λ (o : Option Step). MakesNext c.going.world c.make_next.new.world o) c.in-Some.is c.in-Ok.ensures.made in
+    let made : MakesNext c.going.world c.make_next.new.world (Some c.in-Some.step) =
+    subst (λ (o : Option Step). MakesNext c.going.world c.make_next.new.world o) c.in-Some.is c.in-Ok.ensures.made in
     record {
       went = went_more c.args.world.now c.going.world c.make_next.new.world c.args.steps.now.items c.going.steps.items _ c.in-Some.step
           c.going.invariant.went made c.make_next.ensures.honest
@@ -25,26 +26,14 @@ going-preserved g c =
 
 pub returns-in-None-clause-went : goal.returns-in-None-clause-went
 returns-in-None-clause-went g c =
-    let none = subst (λ (o : Option Step). MakesNext c.going.world c.make_next.new.world o) c.in-None.is c.in-Ok.ensures.made in
+    let none : MakesNext c.going.world c.make_next.new.world None =
+    subst (λ (o : Option Step). MakesNext c.going.world c.make_next.new.world o) c.in-None.is c.in-Ok.ensures.made in
     went_listed c.args.world.now c.make_next.new.world c.args.steps.now.items c.going.steps.items _ c.reserve.ensures.items
     (went_stays c.args.world.now c.going.world c.make_next.new.world c.args.steps.now.items c.going.steps.items c.going.invariant.went
     (λ h. (none h).0) c.make_next.ensures.honest)
 
 pub returns-in-None-clause-ended : goal.returns-in-None-clause-ended
 returns-in-None-clause-ended g c =
-    let none = subst (λ (o : Option Step). MakesNext c.going.world c.make_next.new.world o) c.in-None.is c.in-Ok.ensures.made in
+    let none : MakesNext c.going.world c.make_next.new.world None =
+    subst (λ (o : Option Step). MakesNext c.going.world c.make_next.new.world o) c.in-None.is c.in-Ok.ensures.made in
     record { over = λ h. (none h).1; counts = c.in-Ok.ensures.counts ∙ c.going.invariant.counts }
-
-pub returns-in-Err-clause-went : goal.returns-in-Err-clause-went
-returns-in-Err-clause-went g c =
-    went_listed c.args.world.now c.make_next.new.world c.args.steps.now.items c.going.steps.items _ c.reserve.ensures.items
-    (went_stays c.args.world.now c.going.world c.make_next.new.world c.args.steps.now.items c.going.steps.items c.going.invariant.went
-    (λ h. c.in-Err.ensures.same h) c.make_next.ensures.honest)
-
-pub returns-in-Err-clause-ended : goal.returns-in-Err-clause-ended
-returns-in-Err-clause-ended g c = (
-  refl,
-  c.in-Err.ensures.held_up,
-  refused_counted c.in-Err.cause c.args.world.now.counts c.going.world.counts c.make_next.new.world.counts c.in-Err.ensures.counts
-      c.going.invariant.counts,
-)
