@@ -41,6 +41,6 @@ returns-in-Manual-clause-told g c =
     c.manual.ensures.plain c.manual.ensures.words in
     rw c.in-Manual.is (
       refl,
-      prints_told items NamesAll _ _ c.manual.result c.print_text.result names c.print_text.ensures.printed
-          c.print_text.ensures.no_memory,
+      prints_told items NamesAll _ _ c.manual.result c.print_text-in-Manual.result names c.print_text-in-Manual.ensures.printed
+          c.print_text-in-Manual.ensures.no_memory,
     )
