@@ -1,6 +1,6 @@
 -- How the reading of a text ends that is to be read and nothing else.
--- Cited by checking.rt, specs/Opened.
-use Rattle.std.specs.Prelude.{◌≡◌, ◌≢◌, ◌≤◌, ◌<◌, ℕ, nat_lt, if◌then◌else◌, List, codes, length}
+-- Cited by Checkings, checking.rt, specs/Opened, `checking::check_text`.
+use Rattle.std.specs.Prelude.{◌≡◌, ℕ, nat_lt, if◌then◌else◌, Bool, true, false, List, codes, length}
 use Rattle.kt_text.specs.declared.fault.SceneFault.{SceneFault}
 use Rattle.kt_text.specs.declared.fault.SceneError.{SceneError}
 use Rattle.kt_text.specs.declared.fault.SceneError.TheVariants as causes
@@ -27,23 +27,18 @@ pub record IsChecked (text line : List ℕ) : Type 0 where
   pub scenario : IsScenario text model
   pub is : line ≡ checked_line model.work
 
--- the one, but the other where that is of a later line
-abbrev pub later_of : SceneFault → SceneFault → SceneFault
-later_of steps faults = if nat_lt steps.line faults.line then faults else steps
-
--- want of memory, or else the later of the two
-abbrev pub told_by : (cause : SceneError) → SceneFault → SceneFault → SceneFault
-told_by causes.OutOfMemory steps faults = faults
-told_by cause steps faults = later_of steps faults
-
-abbrev pub told_by_both : (cause : SceneError) → SceneFault → SceneFault → SceneFault
-told_by_both causes.OutOfMemory steps faults = steps
-told_by_both cause steps faults = told_by faults.cause steps faults
+abbrev pub is_want : SceneError → Bool
+is_want causes.OutOfMemory = true
+is_want cause = false
 
 -- of the fault that a text has as steps, and of that which it has as fault lines, the one that is told: want of memory,
--- or else the one of the later line
+-- or else the one of the later line, and of two on one line the first
 abbrev pub told_of : SceneFault → SceneFault → SceneFault
-told_of steps faults = told_by_both steps.cause steps faults
+told_of steps faults =
+    if is_want steps.cause then steps
+    else if is_want faults.cause then faults
+    else if nat_lt steps.line faults.line then faults
+    else steps
 
 -- the text has a fault as steps and one as fault lines, and this is the one that is told
 pub record IsMisread (text : List ℕ) (fault : ReplayFault) : Type 0 where

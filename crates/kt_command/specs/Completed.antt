@@ -1,5 +1,5 @@
 -- How a completion of a scenario ends, over a fresh store in memory.
--- Cited by completing.rt, specs/Opened.
+-- Cited by Completions, completing.rt, specs/Opened.
 use Rattle.std.specs.Prelude.{◌≡◌, ℕ}
 use Rattle.kt_store.specs.Stored.{Stored}
 use Rattle.kt_complete.specs.Completion.{IsCompletionFault, WritesCompleted, WritesCompletedFront}

@@ -1,5 +1,5 @@
 -- How a command ends over the store that is asked for.
--- Cited by request.rt; other crates.
+-- Cited by request.rt, `request::run_request`; other crates.
 use Rattle.std.specs.Prelude.{◌≡◌, ℕ, List, Option, None, Some, Result, Ok, Err}
 use Rattle.kt_store.specs.declared.store.CkptStore.{Ghosts}
 use Rattle.kt_scene.specs.Outside.{Reader, Writer}
@@ -59,17 +59,26 @@ EndsTask kind gives connects carries Completes before after old new n = EndsComp
 abbrev pub NamesAll : List ℕ → Type 0
 NamesAll text = IsPlain text × HasWords text grammar
 
--- how a program ends, by what it is asked to do: how it is explained has no part in it. Of a scenario in a file
--- nothing of standard input is read, and of what is no scenario neither
+-- how it ends, by the file that is named for the scenario, or none: of a scenario in a file nothing of standard input is
+-- read
+abbrev pub EndsRead : {S C F X Y : Type 0} → Ghosts S → (opens : Text → Result S F → Type 0)
+    (connects : Text → Result C F → Type 0) (carries : C → Content → Result (Unit {0}) F → Type 0)
+    (remaining : X → Option (List ℕ)) (texts : Text → Result X Y → Type 0) → Done → Option Text
+    → (before after : Reader) (old new : Writer) → ℕ → Type 0
+EndsRead kind opens connects carries remaining texts done None before after old new n =
+    EndsTask kind opens connects carries done before after old new n
+EndsRead kind opens connects carries remaining texts done (Some path) before after old new n =
+    (after ≡ before) × EndsOverText remaining (texts path)
+    (λ first last m. EndsTask kind opens connects carries done first last old new m) old new n
+
+-- how a program ends, by what it is asked to do: how it is explained has no part in it. Of what is no scenario nothing
+-- of standard input is read
 abbrev pub EndsAsked : {S C F G X Y : Type 0} → Ghosts S → (opens : Text → Result S F → Type 0)
     (copies : Text → Result S G → Type 0) (connects : Text → Result C F → Type 0)
     (carries : C → Content → Result (Unit {0}) F → Type 0) (remaining : X → Option (List ℕ))
     (texts : Text → Result X Y → Type 0) → Asked → (before after : Reader) (old new : Writer) → ℕ → Type 0
-EndsAsked kind opens copies connects carries remaining texts (Reads done None telling) before after old new n =
-    EndsTask kind opens connects carries done before after old new n
-EndsAsked kind opens copies connects carries remaining texts (Reads done (Some path) telling) before after old new
-    n = (after ≡ before) × EndsOverText remaining (texts path)
-    (λ first last m. EndsTask kind opens connects carries done first last old new m) old new n
+EndsAsked kind opens copies connects carries remaining texts (Reads done file telling) before after old new n =
+    EndsRead kind opens connects carries remaining texts done file before after old new n
 EndsAsked kind opens copies connects carries remaining texts (Shows path is_json) before after old new n =
     (after ≡ before) × EndsShown kind copies path is_json old new n
 EndsAsked kind opens copies connects carries remaining texts (Explains word) before after old new n =

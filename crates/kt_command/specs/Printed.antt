@@ -1,5 +1,5 @@
 -- How the printing of a text ends.
--- Cited by printing.rt, specs/Meant, specs/Opened.
+-- Cited by Printings, printing.rt, specs/Meant, specs/Opened.
 use Rattle.std.specs.Prelude.{◌≡◌, ℕ, List}
 use Rattle.kt_scene.specs.Outside.{Writer}
 use Rattle.kt_scene.specs.Stream.{WritesAll, WritesFront}

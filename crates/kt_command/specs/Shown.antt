@@ -1,5 +1,5 @@
 -- How the showing of a store in a file ends.
--- Cited by showing.rt, specs/Opened.
+-- Cited by Printings, showing.rt, specs/Opened, `showing::show_store`.
 use Rattle.std.specs.Prelude.{◌≡◌, ℕ, Bool, true, false, List, Result, Ok, Err, IsTrue}
 use Rattle.kt_store.specs.Content.{Content}
 use Rattle.kt_store.specs.declared.store.CkptStore.{Ghosts}

@@ -1,5 +1,5 @@
 -- When nothing is said on standard error by a program that is done.
--- Cited by request.rt; other crates.
+-- Cited by Quiet, request.rt; other crates.
 use Rattle.std.specs.Prelude.{Bool, true, false, not, ◌&&◌}
 use Rattle.kt_command.specs.declared.request.Telling.{Telling}
 use Rattle.kt_command.specs.declared.request.Telling.TheVariants.{Nothing}

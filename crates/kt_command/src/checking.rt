@@ -1,7 +1,7 @@
 //! A text that is read, and nothing else.
 //! Cited by request.rt.
 ghost use Rattle.std.specs.Prelude.{◌≡◌, ◌⊎◌, IfErr, IfOk};
-ghost use Rattle.kt_command.specs.Checked.{EndsChecked, IsChecked, IsMisread, checked_line, told_of};
+ghost use Rattle.kt_command.specs.Checked.{EndsChecked, IsChecked, IsMisread, checked_line, is_want, told_of};
 ghost use Rattle.kt_scene.specs.Report.{count_line};
 ghost use Rattle.kt_text.specs.Work.{work_in};
 
@@ -61,13 +61,20 @@ fn checked(alloc: Global, text: &[u8], explainer: &mut Explainer) -> Result<Vec<
 fn told_of(steps: SceneFault, faults: SceneFault) -> (WorkKind, SceneFault)
     ensures { result.1 ≡ told_of steps faults }
 {
-    if steps.cause == SceneError::OutOfMemory {
+    if is_want(steps.cause) {
         (WorkKind::Steps, steps)
-    } else if faults.cause == SceneError::OutOfMemory || steps.line < faults.line {
+    } else if is_want(faults.cause) || steps.line < faults.line {
         (WorkKind::Faults, faults)
     } else {
         (WorkKind::Steps, steps)
     }
+}
+
+/// Whether memory was wanting.
+fn is_want(cause: SceneError) -> bool
+    ensures { result ≡ is_want cause }
+{
+    matches!(cause, SceneError::OutOfMemory)
 }
 
 /// What the work is, and how much.
@@ -75,22 +82,28 @@ fn line_of(alloc: Global, work: &Work) -> Result<Vec<u8>, ReplayFault>
     ensures line { IfOk result (λ line. line.items ≡ checked_line (work_in work.now)) }
     ensures memory { IfErr result (λ fault. fault ≡ ReplayFault.Memory) }
 {
-    let (word, count) = match work {
-        Work::Steps(steps) => ("steps ", steps.len()),
-        Work::Faults(faults) => ("faults ", faults.lines().len()),
-    };
-    match count_line(alloc, word, count as u64) {
+    match work_line(alloc, work) {
         Ok(line) => Ok(line),
         Err(AllocError) => Err(ReplayFault::Memory),
     }
 }
 
+/// The same, with want of memory as it comes.
+fn work_line(alloc: Global, work: &Work) -> Result<Vec<u8>, AllocError>
+    ensures { IfOk result (λ line. line.items ≡ checked_line (work_in work.now)) }
+{
+    match work {
+        Work::Steps(steps) => count_line(alloc, b"steps ", steps.len() as u64),
+        Work::Faults(faults) => count_line(alloc, b"faults ", faults.lines().len() as u64),
+    }
+}
+
 /// A word and a number.
-fn count_line(alloc: Global, word: &str, count: u64) -> Result<Vec<u8>, AllocError>
+fn count_line(alloc: Global, word: &[u8], count: u64) -> Result<Vec<u8>, AllocError>
     ensures { IfOk result (λ line. line.items ≡ count_line word.now count) }
 {
     let mut line = Vec::new(alloc);
-    line.extend_from_slice(word.as_bytes())?;
+    line.extend_from_slice(word)?;
     push_number(&mut line, count)?;
     line.push(b'\n')?;
     Ok(line)

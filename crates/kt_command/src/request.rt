@@ -1,8 +1,8 @@
 //! What a program is asked to do, and how it does it.
 //! Cited by carrying.rt, explainer.rt, showing.rt; other crates.
-ghost use Rattle.std.specs.Prelude.{◌≡◌, false, true};
+ghost use Rattle.std.specs.Prelude.{◌≡◌, false, option_map, true};
 ghost use Rattle.kt_command.specs.Asking.{asked, task_of};
-ghost use Rattle.kt_command.specs.Opened.{EndsAsked, EndsOpened, EndsTask};
+ghost use Rattle.kt_command.specs.Opened.{EndsAsked, EndsOpened, EndsRead, EndsTask};
 ghost use Rattle.kt_command.specs.OverText.{EndsOverText};
 ghost use Rattle.kt_command.specs.Silence.{is_silent};
 
@@ -142,31 +142,18 @@ pub fn run_request<
         } => {
             let much = explained(telling, terminals);
             let mut explainer = Explainer::new(alloc, much);
-            let status = match file {
-                None => {
-                    await_text(terminals, errors);
-                    do_task::<S, C, F, O, T, R, W, E>(
-                        opener,
-                        threads,
-                        alloc,
-                        task,
-                        reader,
-                        writer,
-                        errors,
-                        &mut explainer,
-                    )
-                }
-                Some(path) => do_task_in_file::<S, C, F, X, Y, O, T, W, E>(
-                    opener,
-                    threads,
-                    alloc,
-                    task,
-                    path,
-                    writer,
-                    errors,
-                    &mut explainer,
-                ),
-            };
+            let status = read_and_do::<S, C, F, X, Y, O, T, R, W, E>(
+                opener,
+                threads,
+                alloc,
+                task,
+                file,
+                terminals,
+                reader,
+                writer,
+                errors,
+                &mut explainer,
+            );
             explainer.tell(alloc, much, telling, status, errors);
             status
         }
@@ -176,6 +163,47 @@ pub fn run_request<
         Request::Explain { word } => explain_word(alloc, word, writer, errors),
         Request::Completion { shell } => print_text(completion(alloc, shell), writer, errors),
         Request::Manual => print_text(manual(alloc), writer, errors),
+    }
+}
+
+/// Does the task with the scenario in the file that is named, or else with that on standard input.
+fn read_and_do<
+    S: CkptStore + Send + Drop,
+    C: Drop,
+    F: Display + Drop,
+    X: Read + Drop,
+    Y: Display + Drop,
+    O: Opens<S, F> + Carries<C, F> + Texts<X, Y>,
+    T: Threads + Wait + Sync,
+    R: Read,
+    W: Write,
+    E: Write,
+>(
+    opener: O,
+    threads: &T,
+    alloc: Global,
+    task: Task<'_>,
+    file: Option<&str>,
+    terminals: Terminals,
+    reader: &mut Source<R>,
+    writer: &mut Sink<W>,
+    errors: &mut E,
+    explainer: &mut Explainer,
+) -> u8
+    ensures told { EndsRead S.CkptStore (O.gives opener) (O.connects opener) O.carries X.remaining (O.gives_text opener)
+        (task_of task) (option_map (λ path. path.now) file) reader.old reader.new writer.old writer.new result }
+    ensures done_without_a_word { terminals.is_typed ≡ false → result ≡ DONE → errors.new ≡ errors.old }
+{
+    match file {
+        None => {
+            await_text(terminals, errors);
+            do_task::<S, C, F, O, T, R, W, E>(
+                opener, threads, alloc, task, reader, writer, errors, explainer,
+            )
+        }
+        Some(path) => do_task_in_file::<S, C, F, X, Y, O, T, W, E>(
+            opener, threads, alloc, task, path, writer, errors, explainer,
+        ),
     }
 }
 

@@ -12,11 +12,12 @@ use Rattle.kt_store.specs.Calls.{Counts, counted}
 use Rattle.kt_store.specs.declared.error.StoreError.{StoreError}
 use Rattle.kt_store.specs.declared.store.CkptStore.{Ghosts}
 use Rattle.kt_model.specs.declared.error.StepError.{StepError}
+use Rattle.kt_model.specs.declared.error.StepError.TheVariants as refusals
 use Rattle.kt_model.specs.Effect.{step_result}
 use Rattle.kt_model.specs.State.{State}
 use Rattle.kt_model.specs.StepPlan.{step_plan}
 use Rattle.kt_model.proofs.Shared.{plan-few}
-use Rattle.kt_core.specs.Stepping.{IsByPlan, IsCause, Refuses}
+use Rattle.kt_core.specs.Stepping.{IsByPlan, IsCause, Refuses, step_counted}
 use Rattle.kt_core.specs.World.{WorldModel, beside}
 use Rattle.kt_stage.specs.Asking.{IsAsked}
 use Rattle.kt_stage.specs.Policy.{first_some, next_step, or_else}
@@ -83,6 +84,23 @@ next_refused old asked new step cause next same honest stays refuses why =
     (λ h. ap next_of_all (stays h ∙ same (honest h)) ∙ next (honest h))
     (λ h. subst (λ (s : State). Refuses cause (step_plan s step)) (sym (stays h)) (refuses h))
     why
+
+-- a refusal is counted alike, whatever the answer would have been else
+same-counted : {X Y : Type 0} (cause : StepError) (before : Counts) → step_counted {T = X} (Err cause) before ≡ step_counted {T = Y} (Err cause) before
+same-counted (refusals.Store refusal) before = refl
+same-counted refusals.OutOfMemory before = refl
+same-counted refusals.NoNode before = refl
+same-counted refusals.WrongMode before = refl
+same-counted refusals.NothingThere before = refl
+same-counted refusals.NoSuchMatch before = refl
+same-counted refusals.NotDecided before = refl
+same-counted refusals.Unresolved before = refl
+same-counted refusals.StepLimit before = refl
+
+-- what was called before it counted nothing
+pub refused_counted : {X Y : Type 0} (cause : StepError) (old mid new : Counts) → new ≡ step_counted {T = X} (Err cause) mid → mid ≡ old
+    → new ≡ step_counted {T = Y} (Err cause) old
+refused_counted {X} {Y} cause old mid new rose same = rose ∙ ap (step_counted {T = X} (Err cause)) same ∙ same-counted {X} {Y} cause old
 
 -- ---- listing
 

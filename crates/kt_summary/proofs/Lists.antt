@@ -1,7 +1,8 @@
 -- What std lacks on lists.
--- Cited by Listed, Noting.
+-- Cited by Listed, Noting, `waits::push_waits`.
 use Rattle.std.proofs.Common.{◌≡◌, ◌≢◌, ℕ, zero, suc, ◌<◌, List, [], ◌∷◌, ◌++◌, set, length, slice_get, flat_map, All, Contains}
-use Rattle.std.proofs.Common.{Some, refl, sym, ap, subst, inl, inr, arith}
+use Rattle.std.proofs.Common.{Some, ◌+◌, take, get_or, refl, sym, ap, subst, ◌∙◌, inl, inr, arith}
+use Rattle.std.proofs.lemmas.List.{flat_map_more, take_more}
 use Rattle.std.proofs.lemmas.List.Elements.{All-nil, All-append, Contains-append_left, Contains-append_right}
 use Rattle.kt_history.proofs.Shared.{Contains-cons_cases, Contains-none}
 
@@ -31,3 +32,12 @@ flat-contains {A} {B} f (z ∷ zs) x y in_list in_part = elim (Contains-cons_cas
       Contains-append_left (f z) (flat_map f zs) y (subst P (sym here) in_part)
   | inr there ↦ Contains-append_right (f z) (flat_map f zs) y (flat-contains f zs x y there in_part)
 ]
+
+-- one part more stands behind the others
+pub flat-more : {A B : Type 0} (f : A → List B) (xs : List A) (k : ℕ) (d : A) (old now new : List B) → k < length xs
+    → now ≡ old ++ flat_map f (take k xs) → new ≡ now ++ f (get_or xs k d) → new ≡ old ++ flat_map f (take (k + 1) xs)
+flat-more {A} {B} f xs k d old now new lt so_far is =
+    is
+    ∙ ap (λ (ys : List B). ys ++ f (get_or xs k d)) so_far
+    ∙ flat_map_more f old (take k xs) (get_or xs k d)
+    ∙ ap (λ (zs : List A). old ++ flat_map f zs) (sym (take_more xs k d lt))

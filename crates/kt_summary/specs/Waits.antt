@@ -1,5 +1,5 @@
 -- Which workers finished, and which requests wait at which shards.
--- Cited by Listed, laws.rt, waits.rt, `waits::push_all`, `waits::push_waits`.
+-- Cited by Listed, laws.rt, waits.rt, `waits::push_all`, `waits::push_waits`, `waits::waiting`.
 use Rattle.std.specs.Prelude.{◌≡◌, ℕ, Bool, IsTrue, is_some, if◌then◌else◌, List, [], ◌∷◌, Option, None, Some}
 use Rattle.std.specs.List.{flat_map}
 use Rattle.std.specs.Option.{option_map}

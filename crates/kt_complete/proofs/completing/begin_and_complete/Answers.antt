@@ -1,4 +1,5 @@
 use Rattle.std.proofs.Common.{◌≡◌, List, sym, subst, ◌∙◌}
+use Rattle.std.specs.Prelude.{IsTrue}
 use Rattle.kt_scenario.specs.declared.step.Step.{Step}
 use Rattle.kt_core.specs.Store.{StoreValue, store_value}
 use Rattle.kt_scene.specs.Runs.{IsStepFault, RunsTo}
@@ -10,32 +11,36 @@ use Rattle.kt_complete.proofs.completing.begin_and_complete.Goals as goal
 
 pub returns-in-Ok-make_steps-clause-goes : goal.returns-in-Ok-make_steps-clause-goes
 returns-in-Ok-make_steps-clause-goes g c =
-    let led = λ h. subst (λ (xs : List Step). RunsTo c.in-Ok.world.state xs c.make_steps.new.world.state) c.deref.ensures.value
-    (c.make_steps.ensures.made h) in
+    let led : IsTrue c.make_steps.new.world.is_honest → RunsTo c.in-Ok.world.state c.args.steps.items c.make_steps.new.world.state = λ h.
+    subst (λ (xs : List Step). RunsTo c.in-Ok.world.state xs c.make_steps.new.world.state) c.deref.ensures.value
+    (c.in-Ok-make_steps.ensures.made h) in
     goes_told c.args.start (store_value g.S.CkptStore c.args.store) c.args.text.now c.args.scene c.args.steps.items c.in-Ok.world c.make_steps.new.world
     c.requires c.in-Ok.ensures.begins c.make_steps.ensures.honest led (c.in-Ok-make_steps.ensures.counts ∙ c.in-Ok.ensures.counts)
     (λ d. d.world) (λ d. d.steps.items) c.complete.result c.complete.ensures.went
 
 pub returns-in-Ok-make_steps-clause-over : goal.returns-in-Ok-make_steps-clause-over
 returns-in-Ok-make_steps-clause-over g c =
-    let led = λ h. subst (λ (xs : List Step). RunsTo c.in-Ok.world.state xs c.make_steps.new.world.state) c.deref.ensures.value
-    (c.make_steps.ensures.made h) in
+    let led : IsTrue c.make_steps.new.world.is_honest → RunsTo c.in-Ok.world.state c.args.steps.items c.make_steps.new.world.state = λ h.
+    subst (λ (xs : List Step). RunsTo c.in-Ok.world.state xs c.make_steps.new.world.state) c.deref.ensures.value
+    (c.in-Ok-make_steps.ensures.made h) in
     over_told c.args.start (store_value g.S.CkptStore c.args.store) c.args.text.now c.args.scene c.args.steps.items c.in-Ok.world c.make_steps.new.world
     c.requires c.in-Ok.ensures.begins c.make_steps.ensures.honest led (c.in-Ok-make_steps.ensures.counts ∙ c.in-Ok.ensures.counts)
     (λ d. d.world) c.complete.result c.complete.ensures.over
 
 pub returns-in-Ok-make_steps-clause-counts : goal.returns-in-Ok-make_steps-clause-counts
 returns-in-Ok-make_steps-clause-counts g c =
-    let led = λ h. subst (λ (xs : List Step). RunsTo c.in-Ok.world.state xs c.make_steps.new.world.state) c.deref.ensures.value
-    (c.make_steps.ensures.made h) in
+    let led : IsTrue c.make_steps.new.world.is_honest → RunsTo c.in-Ok.world.state c.args.steps.items c.make_steps.new.world.state = λ h.
+    subst (λ (xs : List Step). RunsTo c.in-Ok.world.state xs c.make_steps.new.world.state) c.deref.ensures.value
+    (c.in-Ok-make_steps.ensures.made h) in
     counts_told c.args.start (store_value g.S.CkptStore c.args.store) c.args.text.now c.args.scene c.args.steps.items c.in-Ok.world
     c.make_steps.new.world c.requires c.in-Ok.ensures.begins c.make_steps.ensures.honest led
     (c.in-Ok-make_steps.ensures.counts ∙ c.in-Ok.ensures.counts) (λ d. d.world) c.complete.result c.complete.ensures.over
 
 pub returns-in-Ok-make_steps-clause-fault : goal.returns-in-Ok-make_steps-clause-fault
 returns-in-Ok-make_steps-clause-fault g c =
-    let led = λ h. subst (λ (xs : List Step). RunsTo c.in-Ok.world.state xs c.make_steps.new.world.state) c.deref.ensures.value
-    (c.make_steps.ensures.made h) in
+    let led : IsTrue c.make_steps.new.world.is_honest → RunsTo c.in-Ok.world.state c.args.steps.items c.make_steps.new.world.state = λ h.
+    subst (λ (xs : List Step). RunsTo c.in-Ok.world.state xs c.make_steps.new.world.state) c.deref.ensures.value
+    (c.in-Ok-make_steps.ensures.made h) in
     stops_told c.args.start (store_value g.S.CkptStore c.args.store) c.args.text.now c.args.scene c.args.steps.items c.in-Ok.world
     c.make_steps.new.world c.requires c.in-Ok.ensures.begins c.make_steps.ensures.honest led
     (c.in-Ok-make_steps.ensures.counts ∙ c.in-Ok.ensures.counts) (store_value g.S.CkptStore) c.complete.result c.complete.ensures.stopped
