@@ -55,6 +55,13 @@ impl Explainer {
         }
     }
 
+    /// From here on faults alone are explained: what one of several runs came to is not what they did.
+    pub(crate) fn explain_faults_alone(&mut self) {
+        if self.much == Explained::All {
+            self.much = Explained::Faults;
+        }
+    }
+
     /// Whether a fault is to be explained.
     fn explains_faults(&self) -> bool {
         self.much != Explained::Nothing

@@ -6,7 +6,7 @@
 //!   that was opened at the path that is named. A store of the version before is carried over by the journal that made
 //!   it (`carry_over`, clause `told`).
 //! - Stands on: kt_tuple, kt_words, kt_text, kt_explain, kt_store, kt_show, kt_model, kt_core, kt_scene, kt_reasons,
-//!   kt_stage, kt_summary, kt_complete, kt_run; of the kit: json
+//!   kt_stage, kt_summary, kt_complete, kt_run, kt_trials; of the kit: json
 //! - Begin in: `request.rt`, then `running.rt` and `carrying.rt`, and `status.rt` for the exit statuses.
 #![tactic(auto)]
 
@@ -20,6 +20,7 @@ mod explanation;
 mod meaning;
 mod opens;
 mod printing;
+mod repeating;
 mod request;
 mod running;
 mod showing;

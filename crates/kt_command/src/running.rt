@@ -10,6 +10,7 @@ use kt_run::{Output, run_text_returning_store};
 use kt_scene::{Sink, Source, replay_returning_store};
 use kt_stage::OpenGate;
 use kt_store::{CkptStore, MemStore, memory_may_go};
+use kt_trials::run_chaos_returning_store;
 use std::alloc::Global;
 use std::io::{Read, Write};
 use std::sync::Wait;
@@ -51,11 +52,24 @@ pub fn run_returning_store<
                 threads, alloc, start, reader, writer, store, output, &OpenGate, explainer,
             );
             explainer.explain_run(alloc, answer);
-            if output == Output::Journal {
-                explainer.note_journal(writer.count());
-            }
+            note_journal(output, writer, explainer);
             (end_run(answer, errors), left)
         }
+        Command::RunChaos(start, output, chaos) => {
+            let (answer, left) = run_chaos_returning_store(
+                threads, alloc, start, reader, writer, store, output, chaos, &OpenGate, explainer,
+            );
+            explainer.explain_run(alloc, answer);
+            note_journal(output, writer, explainer);
+            (end_run(answer, errors), left)
+        }
+    }
+}
+
+/// Notes how long the journal is, where it is one that was written.
+fn note_journal<W: Write>(output: Output, writer: &Sink<W>, explainer: &mut Explainer) {
+    if output == Output::Journal {
+        explainer.note_journal(writer.count());
     }
 }
 

@@ -24,6 +24,7 @@ mod progress;
 mod run_tests;
 #[cfg(test)]
 mod tests;
+mod trials;
 mod words;
 
 use crate::files::Files;
