@@ -1,4 +1,5 @@
 -- How several runs of a scenario end, each over a fresh store in memory.
+-- Cited by repeating.rt, specs/Opened.
 use Rattle.std.specs.Prelude.{ℕ}
 use Rattle.kt_scene.specs.Outside.{Reader, Writer}
 use Rattle.kt_trials.specs.Runs.{IsTallyFault, WritesTally, WritesTallyFront}

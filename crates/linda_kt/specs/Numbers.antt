@@ -1,4 +1,5 @@
 -- Numbers among the words of the command line.
+-- Cited by Numbers, specs/Words, trials.rt.
 use Rattle.std.specs.Prelude.{ℕ, Option, None, Some, if◌then◌else◌}
 use Rattle.std.specs.Str.Parse.{digits_value, without_leading_plus}
 use Rattle.clap.specs.ValueTests.{is_unsigned_in}
