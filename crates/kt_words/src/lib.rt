@@ -5,7 +5,7 @@
 //!   `Shell::of_name` gives the shell of a name. What `completion` and `manual` write is printable ASCII and line feeds
 //!   (clause `plain`), and each command's name and each long option stands in it (clause `words`). That a shell and a
 //!   reader of manual pages take it as it is meant is tried and not proved.
-//! - Stands on: nothing but std
+//! - Stands on: none
 //! - Begin in: `command_table.rt`, then `completing.rt` and `page.rt`.
 #![tactic(auto)]
 
