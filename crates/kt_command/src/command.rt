@@ -48,11 +48,14 @@ impl Command {
 
     /// The command with these random fault lines, if there are any. A run has them, and no other command.
     pub fn with_chaos(self, chaos: Option<Chaos>) -> Command
-        ensures { result ≡ with_chaos chaos self.entry }
+        ensures { result ≡ with_chaos chaos self }
     {
-        match (self, chaos) {
-            (Command::Run(start, output), Some(chaos)) => Command::RunChaos(start, output, chaos),
-            (command, _) => command,
+        let Some(chaos) = chaos else {
+            return self;
+        };
+        match self {
+            Command::Run(start, output) => Command::RunChaos(start, output, chaos),
+            Command::Replay(_) | Command::RunChaos(_, _, _) => self,
         }
     }
 }

@@ -10,7 +10,7 @@ use crate::status::DONE;
 use kt_core::{Step, World};
 use kt_explain::explain_text;
 use kt_reasons::{explain_fault, explain_step, explain_unopened};
-use kt_run::RunTextFault;
+use kt_run::{Output, RunTextFault};
 use kt_scene::{MAX_TEXT, Observer, ReplayFault, SceneFault, WorkKind};
 use kt_stage::RunFault;
 use kt_store::CkptStore;
@@ -119,9 +119,9 @@ impl Explainer {
         }
     }
 
-    /// Notes that a journal of so many bytes was written.
-    pub(crate) fn note_journal(&mut self, count: u64) {
-        if count > MAX_TEXT as u64 {
+    /// Notes that so many bytes were written, of a report or of a journal.
+    pub(crate) fn note_output(&mut self, output: Output, count: u64) {
+        if output == Output::Journal && count > MAX_TEXT as u64 {
             self.long_journal = Some(count);
         }
     }

@@ -6,7 +6,7 @@ ghost use Rattle.kt_command.specs.Status.{EndsAs, EndsInMemory};
 use crate::command::Command;
 use crate::explainer::Explainer;
 use crate::status::{DONE, end_replay, end_run};
-use kt_run::{Output, run_text_returning_store};
+use kt_run::run_text_returning_store;
 use kt_scene::{Sink, Source, replay_returning_store};
 use kt_stage::OpenGate;
 use kt_store::{CkptStore, MemStore, memory_may_go};
@@ -52,7 +52,7 @@ pub fn run_returning_store<
                 threads, alloc, start, reader, writer, store, output, &OpenGate, explainer,
             );
             explainer.explain_run(alloc, answer);
-            note_journal(output, writer, explainer);
+            explainer.note_output(output, writer.count());
             (end_run(answer, errors), left)
         }
         Command::RunChaos(start, output, chaos) => {
@@ -60,16 +60,9 @@ pub fn run_returning_store<
                 threads, alloc, start, reader, writer, store, output, chaos, &OpenGate, explainer,
             );
             explainer.explain_run(alloc, answer);
-            note_journal(output, writer, explainer);
+            explainer.note_output(output, writer.count());
             (end_run(answer, errors), left)
         }
-    }
-}
-
-/// Notes how long the journal is, where it is one that was written.
-fn note_journal<W: Write>(output: Output, writer: &Sink<W>, explainer: &mut Explainer) {
-    if output == Output::Journal {
-        explainer.note_journal(writer.count());
     }
 }
 

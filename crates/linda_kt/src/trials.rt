@@ -1,6 +1,6 @@
 //! What the words ask of several runs, and of random fault lines.
 //! Cited by words.rt.
-ghost use Rattle.std.specs.Prelude.{◌≡◌};
+ghost use Rattle.std.specs.Prelude.{◌≡◌, ◌≤◌, IfSome};
 ghost use Rattle.clap.specs.Words.{found_of, rows_of};
 ghost use Rattle.kt_command.specs.Asking.{task_of};
 ghost use Rattle.linda_kt.specs.Numbers.{count_of, number_in, seed_of, times_of};
@@ -84,11 +84,16 @@ fn count_of(text: &str) -> Option<u32>
 
 /// The text as a number from 1 to `most`.
 fn number_up_to(text: &str, most: u32) -> Option<u32>
-    ensures { result ≡ number_in 1 most text.now }
+    ensures value { result ≡ number_in 1 most text.now }
+    ensures within { IfSome result (λ n. (1 ≤ n) × (n ≤ most)) }
 {
-    match text.parse::<u32>() {
-        Ok(number) if 1 <= number && number <= most => Some(number),
-        _ => None,
+    let Ok(number) = text.parse::<u32>() else {
+        return None;
+    };
+    if 1 <= number && number <= most {
+        Some(number)
+    } else {
+        None
     }
 }
 

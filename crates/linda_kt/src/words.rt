@@ -1,6 +1,6 @@
 //! What the words of the command line ask.
 //! Cited by program.rt, trials.rt.
-ghost use Rattle.std.specs.Prelude.{◌≡◌, ◌⊎◌, ◌∷◌, [], IfOk, Some, option_map};
+ghost use Rattle.std.specs.Prelude.{◌≡◌, ◌⊎◌, IfOk, Some, option_map};
 ghost use Rattle.clap.specs.Words.{FailsBy, HasKind, first_of, found_of, kind_of, rows_of};
 ghost use Rattle.kt_command.specs.Asking.{asked, task_of};
 ghost use Rattle.kt_command.specs.Command.{texts};
@@ -191,27 +191,21 @@ pub(crate) fn has_flag(options: &ArgMatches<'_>, flag: &str) -> bool
 fn refuse(alloc: Global, misfit: Misfit) -> Error
     ensures { HasKind (kinds_of misfit) result }
 {
-    match refusal(alloc, kind_of_misfit(misfit), text_of_misfit(misfit)) {
-        Ok(error) => error,
-        Err(error) => Error::from(error),
-    }
-}
-
-/// The kind of that error.
-fn kind_of_misfit(misfit: Misfit) -> ErrorKind
-    ensures { kinds_of misfit ≡ result ∷ [] }
-{
-    match misfit {
+    let kind = match misfit {
         Misfit::NoCommand => ErrorKind::MissingSubcommand,
         Misfit::NoFile | Misfit::NoSeed | Misfit::NoChaos => ErrorKind::MissingRequiredArgument,
         Misfit::NoShell => ErrorKind::InvalidValue,
         Misfit::WrongTimes | Misfit::WrongChaos | Misfit::WrongSeed => ErrorKind::ValueValidation,
         Misfit::OneRun => ErrorKind::ArgumentConflict,
+    };
+    match refusal(alloc, kind, words_for(misfit)) {
+        Ok(error) => error,
+        Err(error) => Error::from(error),
     }
 }
 
-/// What it says.
-fn text_of_misfit(misfit: Misfit) -> &'static str {
+/// What that error says.
+fn words_for(misfit: Misfit) -> &'static str {
     match misfit {
         Misfit::NoCommand => "the words name no command",
         Misfit::NoFile => "the argument '--resume' wants '--store <FILE>'",
