@@ -13,7 +13,8 @@ pub use Rattle.kt_core.specs.declared.start.Start.TheVariants.{Open, Resume}
 use Rattle.kt_words.specs.declared.shell.Shell.{Shell}
 use Rattle.kt_command.specs.declared.command.Command.{Command}
 use Rattle.kt_command.specs.declared.request.Telling.{Telling}
-use Rattle.kt_command.specs.declared.command.Command.TheVariants.{Replay, Run}
+use Rattle.kt_command.specs.declared.command.Command.TheVariants.{Replay, Run, RunChaos}
+use Rattle.kt_chaos.specs.declared.drawing.Chaos.{Chaos}
 
 -- the bytes of a word, or of a path
 abbrev pub Text : Type 0
@@ -41,10 +42,16 @@ command_of word is_resumed has_journal =
     else if is_word word (codes "run") then Some (Run (start_of is_resumed) (output_of has_journal))
     else None
 
--- what is done with a scenario: a command over the store in a file or in memory; the store in a file is carried over; it
--- is read, and nothing else; or it is completed
+-- the command with these random fault lines: a run has them, and no other command
+abbrev pub with_chaos : Option Chaos → Command → Command
+with_chaos (Some chaos) (Run start output) = RunChaos start output chaos
+with_chaos chaos command = command
+
+-- what is done with a scenario: a command over the store in a file or in memory; so many runs, each over a store of its
+-- own in memory; the store in a file is carried over; it is read, and nothing else; or it is completed
 pub data Done : Type 0 where
   Makes : Command → Option Text → Done
+  Repeats : (times : ℕ) → Done
   Carries : Text → Done
   Checks : Done
   Completes : Done

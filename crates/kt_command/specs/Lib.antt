@@ -3,6 +3,7 @@ pub mod Status
 pub mod Answers
 pub mod Asking
 pub mod Carried
+pub mod Repeated
 pub mod Opened
 pub mod Checked
 pub mod Meant

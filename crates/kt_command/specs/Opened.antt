@@ -10,9 +10,10 @@ use Rattle.kt_command.specs.Meant.{EndsMeant}
 use Rattle.kt_command.specs.OverText.{EndsOverText}
 use Rattle.kt_command.specs.Completed.{EndsCompleted}
 use Rattle.kt_command.specs.Printed.{Prints}
+use Rattle.kt_command.specs.Repeated.{EndsRepeated}
 use Rattle.kt_command.specs.Shown.{EndsShown}
-use Rattle.kt_command.specs.Command.{Asked, Carries, Checks, Completes, Done, Explains, Makes, Prompts, Reads, Shows}
-use Rattle.kt_command.specs.Command.{Teaches, Text}
+use Rattle.kt_command.specs.Command.{Asked, Carries, Checks, Completes, Done, Explains, Makes, Prompts, Reads}
+use Rattle.kt_command.specs.Command.{Repeats, Shows, Teaches, Text}
 use Rattle.kt_words.specs.Grammar.{HasWords, grammar}
 use Rattle.kt_words.specs.Plain.{IsPlain}
 use Rattle.kt_store.specs.Content.{Content}
@@ -50,6 +51,7 @@ abbrev pub EndsTask : {S C F : Type 0} → Ghosts S → (Text → Result S F →
     → (C → Content → Result (Unit {0}) F → Type 0) → Done → (before after : Reader) (old new : Writer) → ℕ → Type 0
 EndsTask kind gives connects carries (Makes command file) before after old new n =
     Ends kind gives command file before after old new n
+EndsTask kind gives connects carries (Repeats times) before after old new n = EndsRepeated times before after old new n
 EndsTask kind gives connects carries (Carries path) before after old new n =
     EndsCarried connects carries path before after old new n
 EndsTask kind gives connects carries Checks before after old new n = EndsChecked before after old new n

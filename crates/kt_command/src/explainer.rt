@@ -1,6 +1,6 @@
 //! What is said beside the line of a fault, why it came and what to do; and behind a report, what it came to.
-//! Cited by carrying.rt, checking.rt, completing.rt, request.rt, running.rt; other crates; whoever calls the trait
-//!   `Observer`.
+//! Cited by carrying.rt, checking.rt, completing.rt, repeating.rt, request.rt, running.rt; other crates; whoever
+//!   calls the trait `Observer`.
 
 ghost use Rattle.std.specs.Prelude.{◌≡◌};
 
@@ -10,7 +10,7 @@ use crate::status::DONE;
 use kt_core::{Step, World};
 use kt_explain::explain_text;
 use kt_reasons::{explain_fault, explain_step, explain_unopened};
-use kt_run::RunTextFault;
+use kt_run::{Output, RunTextFault};
 use kt_scene::{MAX_TEXT, Observer, ReplayFault, SceneFault, WorkKind};
 use kt_stage::RunFault;
 use kt_store::CkptStore;
@@ -53,6 +53,13 @@ impl Explainer {
             words: Vec::new(alloc),
             ending: Vec::new(alloc),
             long_journal: None,
+        }
+    }
+
+    /// From here on faults alone are explained: what one of several runs came to is not what they did.
+    pub(crate) fn explain_faults_alone(&mut self) {
+        if self.much == Explained::All {
+            self.much = Explained::Faults;
         }
     }
 
@@ -112,9 +119,9 @@ impl Explainer {
         }
     }
 
-    /// Notes that a journal of so many bytes was written.
-    pub(crate) fn note_journal(&mut self, count: u64) {
-        if count > MAX_TEXT as u64 {
+    /// Notes that so many bytes were written, of a report or of a journal.
+    pub(crate) fn note_output(&mut self, output: Output, count: u64) {
+        if output == Output::Journal && count > MAX_TEXT as u64 {
             self.long_journal = Some(count);
         }
     }

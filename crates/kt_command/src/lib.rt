@@ -5,8 +5,8 @@
 //!   else with the status of the fault that stopped it. It does so over a fresh store in memory, or over the very store
 //!   that was opened at the path that is named. A store of the version before is carried over by the journal that made
 //!   it (`carry_over`, clause `told`).
-//! - Stands on: kt_tuple, kt_text, kt_explain, kt_store, kt_show, kt_model, kt_core, kt_scene, kt_reasons, kt_stage,
-//!   kt_summary, kt_complete, kt_run, kt_words; of the kit: json
+//! - Stands on: kt_tuple, kt_text, kt_chaos, kt_explain, kt_store, kt_show, kt_model, kt_core, kt_scene, kt_reasons,
+//!   kt_stage, kt_summary, kt_complete, kt_run, kt_trials, kt_words; of the kit: json
 //! - Begin in: `request.rt`, then `running.rt` and `carrying.rt`, and `status.rt` for the exit statuses.
 #![tactic(auto)]
 
@@ -20,6 +20,7 @@ mod explanation;
 mod meaning;
 mod opens;
 mod printing;
+mod repeating;
 mod request;
 mod running;
 mod showing;

@@ -15,6 +15,7 @@ use crate::explainer::{Explained, Explainer};
 use crate::meaning::explain_word;
 use crate::opens::Opens;
 use crate::printing::print_text;
+use crate::repeating::repeat_in_memory;
 use crate::running::{run_in_memory, run_returning_store};
 use crate::showing::show_copy;
 use crate::shows::Shows;
@@ -22,6 +23,7 @@ use crate::status::{DONE, STORE, STREAM};
 use crate::texts::Texts;
 use kt_scene::{Sink, Source};
 use kt_store::CkptStore;
+use kt_trials::Times;
 use kt_words::{Shell, completion, manual};
 use std::alloc::Global;
 use std::fmt::Display;
@@ -38,6 +40,11 @@ pub enum Task<'a> {
         command: Command,
         /// The file that the store is to be kept in; none for a store in memory.
         store: Option<&'a str>,
+    },
+    /// A scenario of fault lines is to be run several times, each time over a fresh store in memory.
+    Repeat {
+        /// How often.
+        times: Times,
     },
     /// The store of the version before in a file is to be carried over, by the journal that made it.
     Migrate {
@@ -318,6 +325,9 @@ fn do_task<
                 )
             }
         },
+        Task::Repeat { times } => {
+            repeat_in_memory(threads, alloc, times, reader, writer, errors, explainer)
+        }
         Task::Migrate { store } => {
             carry_over::<C, F, O, R, W, E>(opener, alloc, store, reader, writer, errors, explainer)
         }

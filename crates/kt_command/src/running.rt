@@ -6,10 +6,11 @@ ghost use Rattle.kt_command.specs.Status.{EndsAs, EndsInMemory};
 use crate::command::Command;
 use crate::explainer::Explainer;
 use crate::status::{DONE, end_replay, end_run};
-use kt_run::{Output, run_text_returning_store};
+use kt_run::run_text_returning_store;
 use kt_scene::{Sink, Source, replay_returning_store};
 use kt_stage::OpenGate;
 use kt_store::{CkptStore, MemStore, memory_may_go};
+use kt_trials::run_chaos_returning_store;
 use std::alloc::Global;
 use std::io::{Read, Write};
 use std::sync::Wait;
@@ -51,9 +52,15 @@ pub fn run_returning_store<
                 threads, alloc, start, reader, writer, store, output, &OpenGate, explainer,
             );
             explainer.explain_run(alloc, answer);
-            if output == Output::Journal {
-                explainer.note_journal(writer.count());
-            }
+            explainer.note_output(output, writer.count());
+            (end_run(answer, errors), left)
+        }
+        Command::RunChaos(start, output, chaos) => {
+            let (answer, left) = run_chaos_returning_store(
+                threads, alloc, start, reader, writer, store, output, chaos, &OpenGate, explainer,
+            );
+            explainer.explain_run(alloc, answer);
+            explainer.note_output(output, writer.count());
             (end_run(answer, errors), left)
         }
     }

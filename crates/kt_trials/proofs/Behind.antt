@@ -1,7 +1,7 @@
 -- What a run with random faults writes, and what it answers.
--- Cited by no other file of crates/.
+-- Cited by `chaos::laid_read`, `chaos::laid_told`, `chaos::run_chaos_returning_store`, `chaos::run_laid`.
 use Rattle.std.proofs.Common.{◌≡◌, ℕ, Bool, List, [], ◌∷◌, ◌++◌, Result, Ok, Err, length, refl, sym, ap, subst, ◌∙◌, append-nil}
-use Rattle.std.specs.Prelude.{Option, None, Some, IfErr, IfOk, IsTrue, OnErr, OnOk, drop, map}
+use Rattle.std.specs.Prelude.{Option, None, Some, IfErr, IfOk, IsTrue, OnOk, drop, map}
 use Rattle.std.specs.Io.KnownBytes.{Appends}
 use Rattle.std.specs.List.{flat_map}
 use Rattle.std.proofs.Math.Seq.{drop-append_seam}
@@ -25,12 +25,14 @@ use Rattle.kt_run.specs.declared.fault.RunTextFault.{RunTextFault}
 use Rattle.kt_run.specs.declared.fault.RunTextFault.TheVariants.{Text}
 use Rattle.kt_run.specs.declared.running.Output.{Output}
 use Rattle.kt_run.specs.declared.running.Output.TheVariants as outputs
-use Rattle.kt_run.specs.Run.{IsRunOf, Writes, WritesRun}
+use Rattle.kt_run.specs.Run.{IsRunOf, IsRunTextFault, Writes, WritesRun}
 use Rattle.kt_chaos.specs.declared.drawing.Chaos.{Chaos}
-use Rattle.kt_trials.specs.Chaos.{IsBehindFault, IsDrawn, IsEnded, IsUndrawn, WritesBehind, WritesBehindFront, in_text, in_writing, no_room, output_text}
-use Rattle.kt_trials.specs.Chaos.{remarks_of, with_faults}
+use Rattle.kt_trials.specs.Chaos.{IsBehindFault, IsChaosFault, IsDrawn, IsEnded, IsUndrawn, WritesBehind, WritesBehindFront, WritesChaos, WritesChaosFront}
+use Rattle.kt_trials.specs.Chaos.{behind, in_reading, in_text, in_writing, no_room, of_run, output_text, remarks_of, with_faults}
+use Rattle.kt_trials.specs.Memory.{told_of}
 use Rattle.kt_trials.specs.auxiliary.Laying.{HasRemarks, IsLaidOut, IsTextUndrawn, Lays, no_memory, no_scenario, remark_of}
 use Rattle.kt_trials.proofs.Memory.{read_all}
+use Rattle.kt_trials.proofs.Told.{read-named}
 
 -- ---- what is laid
 
@@ -119,9 +121,8 @@ module _ (start : Start) (was left : StoreValue) (output : Output) (text front b
     later = ran.later;
   }
 
-  pub behind_written : {X E : Type 0} (r : Result X E) (first last : Writer) → OnOk r (WritesAll first last held)
-      → OnOk r (WritesBehind start was left output text front first last)
-  behind_written (Ok x) first last wrote = record {
+  pub behind_written : (first last : Writer) → WritesAll first last held → WritesBehind start was left output text front first last
+  behind_written first last wrote = record {
     steps = ran.steps;
     state = ran.state;
     ended = ended;
@@ -129,7 +130,6 @@ module _ (start : Start) (was left : StoreValue) (output : Output) (text front b
     is_report = told.1;
     written = subst (λ (t : List ℕ). WritesAll first last t) is-all wrote;
   }
-  behind_written (Err e) first last wrote = tt
 
   pub behind_front : (first last : Writer) → WritesFront first last held → WritesBehindFront start was left output text front first last
   behind_front first last wrote = record {
@@ -144,3 +144,52 @@ module _ (start : Start) (was left : StoreValue) (output : Output) (text front b
   pub behind_fault : (fault : ReplayFault) → fault ≡ faults.Write → IsBehindFault start was left text (Text fault)
   behind_fault fault is =
       subst (λ (f : ReplayFault). IsBehindFault start was left text (Text f)) (sym is) (in_writing ran.steps ran.state ended)
+
+-- how the run of a text ends, when what it tells goes to memory
+pub of_lent : (start : Start) (was left : StoreValue) (text : List ℕ) (before after : Reader) (met fault : RunTextFault) → before.bytes ≡ Some text
+    → IsRunTextFault start was left before after met → fault ≡ told_of met → IsBehindFault start was left text fault
+of_lent start was left text before after met fault lent is told =
+    of_run (record { met = met; before = before; after = after; lent = lent; is = is; told = told })
+
+-- ---- the whole way
+
+module _ (start : Start) (was left : StoreValue) (chaos : Chaos) (before after : Reader) (text held remarks : List ℕ)
+    (l : IsLaidOut chaos before after text remarks) (same : held ≡ text) where
+  pub chaos_written : {X E : Type 0} (output : Output) (old new : Writer) (r : Result X E)
+      → OnOk r (WritesBehind start was left output held remarks old new) → OnOk r (WritesChaos start was left output chaos before after old new)
+  chaos_written output old new (Ok x) wrote = record {
+    added = l.added;
+    text = text;
+    drawn = l.drawn;
+    run = subst (λ (rs : List ℕ). WritesBehind start was left output text rs old new) l.remarks_are
+        (subst (λ (t : List ℕ). WritesBehind start was left output t remarks old new) same wrote);
+  }
+  chaos_written output old new (Err e) wrote = tt
+
+  pub chaos_front : (output : Output) (old new : Writer) → WritesBehindFront start was left output held remarks old new
+      → WritesChaosFront start was left output chaos before after old new
+  chaos_front output old new wrote = record {
+    added = l.added;
+    text = text;
+    drawn = l.drawn;
+    run = subst (λ (rs : List ℕ). WritesBehindFront start was left output text rs old new) l.remarks_are
+        (subst (λ (t : List ℕ). WritesBehindFront start was left output t remarks old new) same wrote);
+  }
+
+  pub chaos_fault : {X : Type 0} (r : Result X RunTextFault) → IfErr r (IsBehindFault start was left held)
+      → IfErr r (IsChaosFault start was left chaos before after)
+  chaos_fault (Ok x) h = tt
+  chaos_fault (Err fault) h =
+      behind l.added text l.drawn (subst (λ (t : List ℕ). IsBehindFault start was left t fault) same h)
+
+-- what comes before the run is never the writer's
+undrawn-named : (before after : Reader) (fault : RunTextFault) → IsUndrawn before after fault → fault ≡ Text faults.Write → ⊥
+undrawn-named before after _ (in_reading {fault} is) e = read-named before after fault is e
+undrawn-named before after _ (in_text given read why) e = cc (e)
+undrawn-named before after _ (no_room given read) e = cc (e)
+
+pub undrawn_front : {X A : Type 0} (before after : Reader) (fault : RunTextFault) (r : Result X RunTextFault) → IsUndrawn before after fault → r ≡ Err fault
+    → r ≡ Err (Text faults.Write) → A
+undrawn_front before after fault r is was e =
+    let same : fault ≡ Text faults.Write = cc in
+    absurd (undrawn-named before after fault is same)

@@ -1,7 +1,7 @@
 -- What a run leaves where it reads from memory and writes to memory.
--- Cited by Behind, `times::run_once`.
+-- Cited by Behind, `chaos::run_laid`, `times::run_once`, `times::run_times`.
 use Rattle.std.proofs.Common.{◌≡◌, ℕ, Bool, true, List, [], ◌∷◌, ◌++◌, Result, Ok, Err, refl, sym, ap, subst, ◌∙◌, append-nil}
-use Rattle.std.specs.Prelude.{Option, None, Some, IfErr, IfOk, OnOk}
+use Rattle.std.specs.Prelude.{Option, None, Some, IfErr, OnErr, OnOk}
 use Rattle.std.specs.Io.KnownBytes.{Appends, Consumes, IsAtEnd}
 use Rattle.kt_store.specs.Content.{empty_content}
 use Rattle.kt_store.specs.Stored.{Stored}
@@ -88,6 +88,10 @@ memory_fault text store left before after met fault new_store lent told is =
 pub on_ok : {X E P : Type 0} (r : Result X E) (x : X) → r ≡ Ok x → OnOk r P → P
 on_ok (Ok y) x e h = h
 on_ok (Err f) x e h = absurd cc
+
+pub on_err : {X E P : Type 0} (r : Result X E) (fault : E) → r ≡ Err fault → OnErr r P → P
+on_err (Ok x) fault e h = absurd cc
+on_err (Err f) fault e h = h
 
 pub if_err : {X E : Type 0} (P : E → Type 0) (r : Result X E) (fault : E) → r ≡ Err fault → IfErr r P → P fault
 if_err P (Ok y) fault e h = absurd cc

@@ -1,7 +1,7 @@
 -- What several runs come to, and what is written of them.
--- Cited by no other file of crates/.
+-- Cited by Behind, `chaos::run_chaos_returning_store`, `chaos::run_laid`, `times::run_times`, `times::tally_read`.
 use Rattle.std.proofs.Common.{◌≡◌, ℕ, ◌+◌, List, [], ◌∷◌, ◌++◌, length, Result, Ok, Err, refl, sym, ap, subst, ◌∙◌}
-use Rattle.std.specs.Prelude.{All, IfErr, IfOk, OnErr, OnOk, map}
+use Rattle.std.specs.Prelude.{All, map}
 use Rattle.std.specs.Global.{Vec}
 use Rattle.std.proofs.lemmas.List.{map-append}
 use Rattle.std.proofs.lemmas.List.Elements.{All-append, All-cons, All-nil}
@@ -50,11 +50,10 @@ tallied times before after text held tally reports told read same each count are
 
 -- ---- what is written
 
-pub is_written : {X E : Type 0} (times : ℕ) (before after : Reader) (old new : Writer) (tally held : List ℕ) (r : Result X E)
-    → IsTally times before after tally → held ≡ tally → OnOk r (WritesAll old new held) → OnOk r (WritesTally times before after old new)
-is_written times before after old new tally held (Ok x) t same wrote =
+pub is_written : (times : ℕ) (before after : Reader) (old new : Writer) (tally held : List ℕ) → IsTally times before after tally → held ≡ tally
+    → WritesAll old new held → WritesTally times before after old new
+is_written times before after old new tally held t same wrote =
     record { reports = t.reports; are = t.are; written = subst (λ (xs : List ℕ). WritesAll old new xs) (same ∙ t.is) wrote }
-is_written times before after old new tally held (Err e) t same wrote = tt
 
 pub is_front : (times : ℕ) (before after : Reader) (old new : Writer) (tally held : List ℕ) → IsTally times before after tally → held ≡ tally
     → WritesFront old new held → WritesTallyFront times before after old new
@@ -86,10 +85,29 @@ never-told (Text faults.Read) e = cc (e)
 never-told (Text faults.Write) e = cc (e)
 never-told (Run fault) e = cc (e)
 
-read-named : (before after : Reader) (fault : ReplayFault) → IsReadFault before after fault → Text fault ≡ Text faults.Write → ⊥
+pub read-named : (before after : Reader) (fault : ReplayFault) → IsReadFault before after fault → Text fault ≡ Text faults.Write → ⊥
 read-named before after fault is e =
     let same : fault ≡ faults.Write = cc in
     subst (λ (f : ReplayFault). IsReadFault before after f) same is
+
+-- the fault of a run in memory is never told as the writer's
+pub never_written : {X A : Type 0} (met fault : RunTextFault) (r : Result X RunTextFault) → fault ≡ told_of met → r ≡ Err fault
+    → r ≡ Err (Text faults.Write) → A
+never_written met fault r told was e =
+    let same : fault ≡ Text faults.Write = cc in
+    absurd (never-told met (sym told ∙ same))
+
+-- what holds anyway holds unless the fault is the writer's
+pub unless_kept : (fault : RunTextFault) (P : Type 0) → P → UnlessFront fault P
+unless_kept (Text (faults.Scene line cause)) P h = h
+unless_kept (Text (faults.Step at cause)) P h = h
+unless_kept (Text (faults.Open cause)) P h = h
+unless_kept (Text (faults.Resume cause)) P h = h
+unless_kept (Text (faults.Report cause)) P h = h
+unless_kept (Text faults.Memory) P h = h
+unless_kept (Text faults.Read) P h = h
+unless_kept (Text faults.Write) P h = tt
+unless_kept (Run fault) P h = h
 
 pub never-writers : (before after : Reader) (fault : RunTextFault) → IsUnwritten before after fault → fault ≡ Text faults.Write → ⊥
 never-writers before after _ (in_reading {fault} is) e = read-named before after fault is e

@@ -1,5 +1,6 @@
 -- What a run with random faults writes, and what it answers.
--- Cited by Behind, chaos.rt, specs/auxiliary/Laying.
+-- Cited by Behind, chaos.rt, specs/auxiliary/Laying, `chaos::laid_read`, `chaos::run_chaos_returning_store`; other
+--   crates.
 use Rattle.std.specs.Prelude.{◌≡◌, ℕ, List, ◌++◌, map, IsTrue, Some}
 use Rattle.std.specs.List.{flat_map}
 use Rattle.kt_scenario.specs.Scene.{SceneModel}

@@ -1,5 +1,5 @@
 -- What a run leaves that reads from memory and writes to memory.
--- Cited by Memory, Told, memory.rt, specs/Chaos, specs/Runs.
+-- Cited by Behind, Memory, Told, memory.rt, specs/Chaos, specs/Runs.
 use Rattle.kt_scene.specs.declared.fault.ReplayFault.TheVariants as faults
 use Rattle.kt_run.specs.declared.fault.RunTextFault.{RunTextFault}
 use Rattle.kt_run.specs.declared.fault.RunTextFault.TheVariants.{Text}

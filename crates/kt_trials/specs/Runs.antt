@@ -1,5 +1,5 @@
 -- Several runs of one scenario of fault lines, each over a fresh store in memory.
--- Cited by Memory, Told, specs/auxiliary/Telling, times.rt, `times::reports_of`.
+-- Cited by Memory, Told, specs/auxiliary/Telling, times.rt, `times::reports_of`; other crates.
 use Rattle.std.specs.Prelude.{◌≡◌, ℕ, true, List, length, All, Some}
 use Rattle.kt_scenario.specs.declared.step.Step.{Step}
 use Rattle.kt_store.specs.Content.{empty_content}

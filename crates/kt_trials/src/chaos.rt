@@ -1,5 +1,5 @@
 //! From the bytes of a scenario of fault lines to the bytes that tell of its run with random faults.
-//! Cited by no other file of crates/.
+//! Cited by other crates.
 
 ghost use Rattle.std.specs.Prelude.{◌≡◌, ◌++◌, Err, IfErr, IfOk, OnOk};
 ghost use Rattle.std.specs.List.{flat_map};

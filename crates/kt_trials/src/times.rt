@@ -1,5 +1,5 @@
 //! From the bytes of a scenario of fault lines to the bytes of the tally of its runs.
-//! Cited by tests.rt.
+//! Cited by tests.rt; other crates.
 
 ghost use Rattle.std.specs.Prelude.{◌≡◌, ◌≤◌, ◌↔◌, All, length, Err, IfErr, IfOk, IfSome, IsSome, OnOk};
 ghost use Rattle.kt_scene.specs.declared.fault.ReplayFault.TheVariants as text_faults;

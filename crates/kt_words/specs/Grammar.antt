@@ -21,7 +21,8 @@ abbrev pub grammar : List Named
 grammar =
     command (codes "replay") (codes "store" ∷ codes "explain" ∷ codes "json" ∷ [])
     ∷ command (codes "run")
-    (codes "store" ∷ codes "journal" ∷ codes "resume" ∷ codes "explain" ∷ codes "json" ∷ [])
+    (codes "store" ∷ codes "journal" ∷ codes "resume" ∷ codes "times" ∷ codes "chaos" ∷ codes "seed" ∷ codes "explain"
+    ∷ codes "json" ∷ [])
     ∷ command (codes "resume") (codes "store" ∷ codes "explain" ∷ codes "json" ∷ [])
     ∷ command (codes "migrate") (codes "store" ∷ [])
     ∷ command (codes "check") (codes "explain" ∷ codes "json" ∷ [])

@@ -8,7 +8,7 @@ ghost use Rattle.kt_words.specs.Plain.{is_plain_command};
 
 use crate::argument_table::{COMMAND, NUMBER, SCENARIO, SHELL, STORE_FILE, STORE_JOURNAL};
 use crate::option_table::{
-    EXPLAIN, JOURNAL, JSON, JSON_OF_STORE, KEPT_STORE, OLD_STORE, RESUME, STORE,
+    CHAOS, EXPLAIN, JOURNAL, JSON, JSON_OF_STORE, KEPT_STORE, OLD_STORE, RESUME, SEED, STORE, TIMES,
 };
 use crate::texts::{
     CHECK_ABOUT, COMPLETE_ABOUT, COMPLETION_ABOUT, EXPLAIN_NUMBER_ABOUT, HELP_COMMAND_ABOUT,
@@ -38,7 +38,7 @@ pub const RUN: CommandWords = CommandWords {
     name: "run",
     about: RUN_ABOUT,
     arguments: &[SCENARIO],
-    options: &[STORE, JOURNAL, RESUME, EXPLAIN, JSON],
+    options: &[STORE, JOURNAL, RESUME, TIMES, CHAOS, SEED, EXPLAIN, JSON],
 };
 
 /// `resume`.

@@ -2,8 +2,9 @@
 //! Cited by command_table.rt.
 
 use crate::texts::{
-    EXPLAIN_HELP, HELP_HELP, JOURNAL_HELP, JSON_HELP, JSON_OF_STORE_HELP, KEPT_STORE_HELP,
-    OLD_STORE_HELP, RESUME_HELP, STORE_HELP, VERSION_FLAG_HELP,
+    CHAOS_HELP, EXPLAIN_HELP, HELP_HELP, JOURNAL_HELP, JSON_HELP, JSON_OF_STORE_HELP,
+    KEPT_STORE_HELP, OLD_STORE_HELP, RESUME_HELP, SEED_HELP, STORE_HELP, TIMES_HELP,
+    VERSION_FLAG_HELP,
 };
 use crate::words::OptionWords;
 
@@ -44,6 +45,30 @@ pub const RESUME: OptionWords = OptionWords {
     long: "resume",
     value: None,
     help: RESUME_HELP,
+    is_required: false,
+};
+
+/// `--times N`.
+pub const TIMES: OptionWords = OptionWords {
+    long: "times",
+    value: Some("N"),
+    help: TIMES_HELP,
+    is_required: false,
+};
+
+/// `--chaos N`.
+pub const CHAOS: OptionWords = OptionWords {
+    long: "chaos",
+    value: Some("N"),
+    help: CHAOS_HELP,
+    is_required: false,
+};
+
+/// `--seed K`.
+pub const SEED: OptionWords = OptionWords {
+    long: "seed",
+    value: Some("K"),
+    help: SEED_HELP,
     is_required: false,
 };
 

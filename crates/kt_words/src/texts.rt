@@ -21,6 +21,20 @@ pub const JOURNAL_HELP: &str =
 pub const RESUME_HELP: &str =
     "Goes on from what FILE holds, after the program was stopped; it need not be fresh then";
 
+/// What is said of the option `times`.
+pub const TIMES_HELP: &str =
+    "Runs the scenario N times, from 1 to 10000, each time over a store of its own in memory, and writes each different \
+            report once, behind how often it came";
+
+/// What is said of the option `chaos`.
+pub const CHAOS_HELP: &str =
+    "Adds N random fault lines, from 1 to 10000, and writes each of them as a remark before the report, so that it can \
+            be kept; wants --seed";
+
+/// What is said of the option `seed`.
+pub const SEED_HELP: &str =
+    "Which fault lines --chaos adds: for one number and one scene always the same ones";
+
 /// What is said of the option `explain`.
 pub const EXPLAIN_HELP: &str =
     "Says behind the line of a fault why it came, as on a terminal without the flag, and behind a report what it came to";

@@ -43,15 +43,27 @@ journal_rule = record (new_rule (codes "journal")) { long = Some (codes "journal
 abbrev pub resume_rule : Rule
 resume_rule = record (new_rule (codes "resume")) { long = Some (codes "resume"); action = Some SetTrue }
 
--- a run, without the flags that ask for an explanation
-abbrev pub unexplained_run_shape : Shape
-unexplained_run_shape = record (new_shape (codes "run")) {
+-- an option of this name whose one value is a number
+abbrev pub number_rule : Text → Rule
+number_rule id = record (new_rule id) { long = Some id; value_names = 1 }
+
+-- what a run of the scenario as it stands may have
+abbrev pub one_run_shape : Shape
+one_run_shape = record (new_shape (codes "run")) {
   rules = scenario_rule ∷ store_rule ∷ journal_rule ∷ resume_rule ∷ [];
 }
 
+-- with what several runs have, and a run with random faults; without the flags that ask for an explanation
+abbrev pub unexplained_run_shape : Shape
+unexplained_run_shape = record one_run_shape {
+  rules = scenario_rule ∷ store_rule ∷ journal_rule ∷ resume_rule ∷ number_rule (codes "times")
+      ∷ number_rule (codes "chaos") ∷ number_rule (codes "seed") ∷ [];
+}
+
 abbrev pub run_shape : Shape
-run_shape = record unexplained_run_shape {
-  rules = scenario_rule ∷ store_rule ∷ journal_rule ∷ resume_rule ∷ explain_rule ∷ json_rule ∷ [];
+run_shape = record one_run_shape {
+  rules = scenario_rule ∷ store_rule ∷ journal_rule ∷ resume_rule ∷ number_rule (codes "times")
+      ∷ number_rule (codes "chaos") ∷ number_rule (codes "seed") ∷ explain_rule ∷ json_rule ∷ [];
 }
 
 -- the option `--store` of a file that is carried over, where it must stand too

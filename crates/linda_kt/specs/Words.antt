@@ -1,20 +1,23 @@
 -- The words of the command line: what they ask, and what is wrong with them.
--- Cited by Parsed, Statuses, program.rt, specs/Status, words.rt, `program::run_arguments`, `words::read_words`.
-use Rattle.std.specs.Prelude.{◌≡◌, ◌≢◌, ◌⊎◌, Bool, true, false, not, ◌&&◌, List, [], ◌∷◌, Option, None, Some, refl}
-use Rattle.std.specs.Prelude.{codes, Result, Ok, Err}
+-- Cited by Parsed, Statuses, program.rt, specs/Status, trials.rt, words.rt, `program::run_arguments`,
+--   `words::read_words`.
+use Rattle.std.specs.Prelude.{◌≡◌, ◌≢◌, ◌⊎◌, ℕ, Bool, true, false, not, ◌&&◌, ◌||◌, List, [], ◌∷◌, Option, None, Some}
+use Rattle.std.specs.Prelude.{codes, refl, Result, Ok, Err}
 use Rattle.std.specs.Prelude.{is_some, unwrap_or, if◌then◌else◌}
 use Rattle.clap.specs.Kinds.{or_else}
 use Rattle.clap.specs.Words.{IsAmong, Kinds, Row, Text, fault_of, first_of}
 use Rattle.clap.specs.Words.{subcommand_of}
-use Rattle.clap.specs.declared.error.kind.ErrorKind.TheVariants.{DisplayHelp, DisplayVersion, InvalidSubcommand}
-use Rattle.clap.specs.declared.error.kind.ErrorKind.TheVariants.{InvalidValue, MissingRequiredArgument}
-use Rattle.clap.specs.declared.error.kind.ErrorKind.TheVariants.{MissingSubcommand, UnknownArgument}
+use Rattle.clap.specs.declared.error.kind.ErrorKind.TheVariants.{ArgumentConflict, DisplayHelp, DisplayVersion}
+use Rattle.clap.specs.declared.error.kind.ErrorKind.TheVariants.{InvalidSubcommand, InvalidValue}
+use Rattle.clap.specs.declared.error.kind.ErrorKind.TheVariants.{MissingRequiredArgument, MissingSubcommand}
+use Rattle.clap.specs.declared.error.kind.ErrorKind.TheVariants.{UnknownArgument, ValueValidation}
 use Rattle.clap.proofs.OnLiterals.{clap_on_literals}
 use Rattle.kt_run.specs.declared.running.Output.TheVariants as outputs
 use Rattle.kt_command.specs.declared.command.Command.{Command}
-use Rattle.kt_command.specs.declared.command.Command.TheVariants.{Replay, Run}
+use Rattle.kt_command.specs.declared.command.Command.TheVariants.{Replay, Run, RunChaos}
 use Rattle.kt_command.specs.Command.{Asked, Carries, Checks, Completes, Done, Explains, Makes, Open, Prompts, Reads}
-use Rattle.kt_command.specs.Command.{Resume, Shows, Teaches, command_of, is_word}
+use Rattle.kt_command.specs.Command.{Repeats, Resume, Shows, Teaches, command_of, is_word, with_chaos}
+use Rattle.kt_chaos.specs.declared.drawing.Chaos.{Chaos}
 use Rattle.kt_words.specs.Shell.{shell_of}
 use Rattle.kt_words.specs.declared.shell.Shell.{Shell}
 use Rattle.kt_words.specs.declared.shell.Shell.TheVariants.{Fish}
@@ -25,7 +28,9 @@ use Rattle.kt_command.specs.declared.request.Terminals.{Terminals}
 use Rattle.std.specs.Option.{option_map_or}
 use Rattle.linda_kt.specs.Grammar.{command_line_app}
 use Rattle.linda_kt.specs.declared.words.Misfit.{Misfit}
-use Rattle.linda_kt.specs.declared.words.Misfit.TheVariants.{NoCommand, NoFile, NoShell}
+use Rattle.linda_kt.specs.declared.words.Misfit.TheVariants.{NoChaos, NoCommand, NoFile, NoSeed, NoShell, OneRun}
+use Rattle.linda_kt.specs.declared.words.Misfit.TheVariants.{WrongChaos, WrongSeed, WrongTimes}
+use Rattle.linda_kt.specs.Numbers.{count_of, seed_of, times_of}
 
 -- a flag stands among a command's words: its text is that of `true` then
 abbrev pub is_true : Option Text → Bool
@@ -57,17 +62,65 @@ not_dash (Some file) = if is_word file (codes "-") then None else Some file
 abbrev pub scenario_of : List Row → Option Text
 scenario_of rows = not_dash (first_of (codes "scenario") rows)
 
--- a command over the store in a file, or in memory
-abbrev pub makes_over : Option Text → Option Command → Result Done Misfit
-makes_over store None = Err NoCommand
-makes_over store (Some command) = Ok (Makes command store)
+-- so many random fault lines by this seed
+abbrev pub seeded : ℕ → Option ℕ → Result (Option Chaos) Misfit
+seeded count None = Err WrongSeed
+seeded count (Some seed) = Ok (Some (record { count = count; seed = seed }))
+
+abbrev pub counted : Option ℕ → Option ℕ → Result (Option Chaos) Misfit
+counted None seed = Err WrongChaos
+counted (Some count) seed = seeded count seed
+
+abbrev pub chaos_by : Text → Text → Result (Option Chaos) Misfit
+chaos_by count seed = counted (count_of count) (seed_of seed)
+
+-- how many random fault lines are asked for, and by which seed: both stand there or neither
+abbrev pub chaos_given : Option Text → Option Text → Result (Option Chaos) Misfit
+chaos_given None None = Ok None
+chaos_given None (Some seed) = Err NoChaos
+chaos_given (Some count) None = Err NoSeed
+chaos_given (Some count) (Some seed) = chaos_by count seed
+
+abbrev pub chaos_of : List Row → Result (Option Chaos) Misfit
+chaos_of rows = chaos_given (first_of (codes "chaos") rows) (first_of (codes "seed") rows)
+
+-- a command over the store in a file, or in memory, with random fault lines or without
+abbrev pub makes_over : Option Text → Option Chaos → Option Command → Result Done Misfit
+makes_over store chaos None = Err NoCommand
+makes_over store chaos (Some command) = Ok (Makes (with_chaos chaos command) store)
+
+abbrev pub makes_with : Option Text → Option Command → Result (Option Chaos) Misfit → Result Done Misfit
+makes_with store command (Err misfit) = Err misfit
+makes_with store command (Ok chaos) = makes_over store chaos command
 
 -- what a command over a store and its own words ask: to go on it wants a file
 abbrev pub made_of : Text → List Row → Result Done Misfit
 made_of name rows =
     if has_flag (codes "resume") rows && not (is_some (first_of (codes "store") rows)) then Err NoFile
-    else makes_over (first_of (codes "store") rows)
-    (command_of name (has_flag (codes "resume") rows) (has_flag (codes "journal") rows))
+    else makes_with (first_of (codes "store") rows)
+    (command_of name (has_flag (codes "resume") rows) (has_flag (codes "journal") rows)) (chaos_of rows)
+
+-- something stands there that only one run can have
+abbrev pub is_of_one_run : List Row → Bool
+is_of_one_run rows =
+    has_flag (codes "journal") rows || has_flag (codes "resume") rows || is_some (first_of (codes "store") rows)
+    || is_some (first_of (codes "chaos") rows) || is_some (first_of (codes "seed") rows)
+
+-- so many runs
+abbrev pub repeats : Option ℕ → Result Done Misfit
+repeats None = Err WrongTimes
+repeats (Some times) = Ok (Repeats times)
+
+abbrev pub repeated_of : Text → List Row → Result Done Misfit
+repeated_of times rows = if is_of_one_run rows then Err OneRun else repeats (times_of times)
+
+-- several runs, where the words say how many; else a command over a store
+abbrev pub timed : Option Text → Text → List Row → Result Done Misfit
+timed None name rows = made_of name rows
+timed (Some times) name rows = repeated_of times rows
+
+abbrev pub run_or_made_of : Text → List Row → Result Done Misfit
+run_or_made_of name rows = timed (first_of (codes "times") rows) name rows
 
 -- how what happened is explained: as JSON before in words
 abbrev pub telling_of : List Row → Telling
@@ -86,7 +139,7 @@ done_of name rows =
     if is_word name (codes "check") then Ok Checks
     else if is_word name (codes "complete") then Ok Completes
     else if is_word name (codes "migrate") then Ok (Carries (required_text (first_of (codes "store") rows)))
-    else made_of name rows
+    else run_or_made_of name rows
 
 -- a shell's completion, where the shell is known
 abbrev pub prompts : Option Shell → Result Asked Misfit
@@ -122,6 +175,12 @@ abbrev pub kinds_of : Misfit → Kinds
 kinds_of NoCommand = MissingSubcommand ∷ []
 kinds_of NoFile = MissingRequiredArgument ∷ []
 kinds_of NoShell = InvalidValue ∷ []
+kinds_of WrongTimes = ValueValidation ∷ []
+kinds_of WrongChaos = ValueValidation ∷ []
+kinds_of WrongSeed = ValueValidation ∷ []
+kinds_of NoSeed = MissingRequiredArgument ∷ []
+kinds_of NoChaos = MissingRequiredArgument ∷ []
+kinds_of OneRun = ArgumentConflict ∷ []
 
 abbrev pub misfit_kinds : Result Asked Misfit → Kinds
 misfit_kinds (Ok asked) = []
@@ -189,6 +248,43 @@ resumed_run_passes = (refl, refl, refl)
 pub resumed_run_wants_a_file : words_fault (codes "run" ∷ codes "--resume" ∷ []) ≡ MissingRequiredArgument ∷ []
 unfolding clap_on_literals
 resumed_run_wants_a_file = refl
+
+-- a run has no fault that is to be made several times, of which the words say how many, from 1 to 10000
+pub times_passes : (words_fault (codes "run" ∷ codes "--times" ∷ codes "20" ∷ []) ≡ [])
+    × (asked_by (codes "run" ∷ codes "--times" ∷ codes "20" ∷ []) ≡ Some (Reads (Repeats 20) None tellings.Nothing))
+    × (asked_by (codes "run" ∷ codes "--times=10000" ∷ codes "a.scn" ∷ codes "--explain" ∷ [])
+    ≡ Some (Reads (Repeats 10000) (Some (codes "a.scn")) tellings.Words))
+unfolding clap_on_literals
+times_passes = (refl, refl, refl)
+
+pub times_fails : (words_fault (codes "run" ∷ codes "--times" ∷ codes "0" ∷ []) ≡ ValueValidation ∷ [])
+    × (words_fault (codes "run" ∷ codes "--times" ∷ codes "10001" ∷ []) ≡ ValueValidation ∷ [])
+    × (words_fault (codes "run" ∷ codes "--times" ∷ codes "x" ∷ []) ≡ ValueValidation ∷ [])
+    × (words_fault (codes "run" ∷ codes "--times" ∷ codes "" ∷ []) ≡ ValueValidation ∷ [])
+    × (words_fault (codes "run" ∷ codes "--times" ∷ codes "20" ∷ codes "--journal" ∷ []) ≡ ArgumentConflict ∷ [])
+    × (words_fault (codes "replay" ∷ codes "--times" ∷ codes "20" ∷ []) ≡ UnknownArgument ∷ [])
+unfolding clap_on_literals
+times_fails = (refl, refl, refl, refl, refl, refl)
+
+-- nor has one with random fault lines, where the words say how many, from 1 to 10000, and by which seed
+pub chaos_passes : (words_fault (codes "run" ∷ codes "--chaos" ∷ codes "3" ∷ codes "--seed" ∷ codes "7" ∷ []) ≡ [])
+    × (asked_by (codes "run" ∷ codes "--chaos" ∷ codes "3" ∷ codes "--seed" ∷ codes "7" ∷ [])
+    ≡ Some (Reads (Makes (RunChaos Open outputs.Report (record { count = 3; seed = 7 })) None) None tellings.Nothing))
+    × (asked_by (codes "run" ∷ codes "--seed=0" ∷ codes "--chaos=1" ∷ codes "--store=a.db" ∷ codes "--resume"
+    ∷ codes "--journal" ∷ [])
+    ≡ Some (Reads (Makes (RunChaos Resume outputs.Journal (record { count = 1; seed = 0 })) (Some (codes "a.db"))) None
+    tellings.Nothing))
+unfolding clap_on_literals
+chaos_passes = (refl, refl, refl)
+
+pub chaos_fails : (words_fault (codes "run" ∷ codes "--chaos" ∷ codes "3" ∷ []) ≡ MissingRequiredArgument ∷ [])
+    × (words_fault (codes "run" ∷ codes "--seed" ∷ codes "7" ∷ []) ≡ MissingRequiredArgument ∷ [])
+    × (words_fault (codes "run" ∷ codes "--chaos=0" ∷ codes "--seed=7" ∷ []) ≡ ValueValidation ∷ [])
+    × (words_fault (codes "run" ∷ codes "--chaos=3" ∷ codes "--seed=x" ∷ []) ≡ ValueValidation ∷ [])
+    × (words_fault (codes "run" ∷ codes "--chaos=3" ∷ codes "--seed=18446744073709551616" ∷ []) ≡ ValueValidation ∷ [])
+    × (words_fault (codes "run" ∷ codes "--chaos=3" ∷ codes "--seed=7" ∷ codes "--times=2" ∷ []) ≡ ArgumentConflict ∷ [])
+unfolding clap_on_literals
+chaos_fails = (refl, refl, refl, refl, refl, refl)
 
 -- a command has no fault with the flag `--explain` or `--json`, and asks then to be explained so
 pub explain_passes : (words_fault (codes "replay" ∷ codes "--explain" ∷ []) ≡ [])

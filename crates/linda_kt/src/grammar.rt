@@ -6,17 +6,18 @@ ghost use Rattle.clap.specs.declared.builder.command.Command.TheViews.{out-Comma
 ghost use Rattle.clap.specs.Simple.{shape_of};
 ghost use Rattle.linda_kt.specs.Grammar.{check_shape, command_line_app, complete_shape, completion_shape};
 ghost use Rattle.linda_kt.specs.Grammar.{explain_rule, explain_shape, journal_rule, json_rule, kept_store_rule};
-ghost use Rattle.linda_kt.specs.Grammar.{migrate_shape, old_store_rule, opening_app, program_app, reading_app};
-ghost use Rattle.linda_kt.specs.Grammar.{replay_shape, resume_rule, resume_shape, run_shape, running_app};
-ghost use Rattle.linda_kt.specs.Grammar.{unexplained_run_shape};
-ghost use Rattle.linda_kt.specs.Grammar.{scenario_rule, show_shape, store_rule, telling_app, word_rule};
+ghost use Rattle.linda_kt.specs.Grammar.{migrate_shape, number_rule, old_store_rule, one_run_shape, opening_app};
+ghost use Rattle.linda_kt.specs.Grammar.{program_app, reading_app, replay_shape, resume_rule, resume_shape, run_shape};
+ghost use Rattle.linda_kt.specs.Grammar.{running_app, scenario_rule, show_shape, store_rule, telling_app};
+ghost use Rattle.linda_kt.specs.Grammar.{unexplained_run_shape, word_rule};
 
 use clap::{Arg, ArgAction};
 use kt_words::{
-    ABOUT, CHECK_ABOUT, COMPLETE_ABOUT, COMPLETION_ABOUT, EXPLAIN_HELP, EXPLAIN_NUMBER_ABOUT,
-    JOURNAL_HELP, JSON_HELP, JSON_OF_STORE_HELP, KEPT_STORE_HELP, MANUAL_ABOUT, MIGRATE_ABOUT,
-    NUMBER_HELP, OLD_STORE_HELP, REPLAY_ABOUT, RESUME_COMMAND_ABOUT, RESUME_HELP, RUN_ABOUT,
-    SCENARIO_HELP, SHELL_HELP, SHOW_ABOUT, STORE_FILE_HELP, STORE_HELP, VERSION,
+    ABOUT, CHAOS_HELP, CHECK_ABOUT, COMPLETE_ABOUT, COMPLETION_ABOUT, EXPLAIN_HELP,
+    EXPLAIN_NUMBER_ABOUT, JOURNAL_HELP, JSON_HELP, JSON_OF_STORE_HELP, KEPT_STORE_HELP,
+    MANUAL_ABOUT, MIGRATE_ABOUT, NUMBER_HELP, OLD_STORE_HELP, REPLAY_ABOUT, RESUME_COMMAND_ABOUT,
+    RESUME_HELP, RUN_ABOUT, SCENARIO_HELP, SEED_HELP, SHELL_HELP, SHOW_ABOUT, STORE_FILE_HELP,
+    STORE_HELP, TIMES_HELP, VERSION,
 };
 use std::alloc::{AllocError, Global};
 
@@ -107,7 +108,7 @@ fn resume_command<'a>(alloc: Global) -> Result<clap::Command<'a>, AllocError>
         .arg(json_flag(alloc, JSON_HELP))
 }
 
-/// `run` with its option and its flags.
+/// `run` with its options and its flags.
 fn run_command<'a>(alloc: Global) -> Result<clap::Command<'a>, AllocError>
     ensures shape { IfOk result (λ c. shape_of c ≡ run_shape) }
     ensures local { IfOk result (λ c. (fields_of c).has_globals ≡ false) }
@@ -120,6 +121,17 @@ fn run_command<'a>(alloc: Global) -> Result<clap::Command<'a>, AllocError>
 /// `run` without the flags that ask for an explanation.
 fn unexplained_run<'a>(alloc: Global) -> Result<clap::Command<'a>, AllocError>
     ensures shape { IfOk result (λ c. shape_of c ≡ unexplained_run_shape) }
+    ensures local { IfOk result (λ c. (fields_of c).has_globals ≡ false) }
+{
+    let run = one_run(alloc)?;
+    run.arg(number_option(alloc, "times", "N", TIMES_HELP))?
+        .arg(number_option(alloc, "chaos", "N", CHAOS_HELP))?
+        .arg(number_option(alloc, "seed", "K", SEED_HELP))
+}
+
+/// `run` with what a run of the scenario as it stands may have.
+fn one_run<'a>(alloc: Global) -> Result<clap::Command<'a>, AllocError>
+    ensures shape { IfOk result (λ c. shape_of c ≡ one_run_shape) }
     ensures local { IfOk result (λ c. (fields_of c).has_globals ≡ false) }
 {
     let run = clap::Command::new(alloc, "run").about(RUN_ABOUT);
@@ -208,6 +220,14 @@ fn word<'a>(alloc: Global, id: &'a str, name: &'a str, help: &'a str) -> Arg<'a>
         .value_name(name)
         .required(true)
         .help(help)
+}
+
+/// An option whose value is a number. That it is one, and within its limits, is seen where the words are read.
+fn number_option<'a>(alloc: Global, id: &'a str, name: &'a str, help: &'a str) -> Arg<'a>
+    ensures rule { rule_of result ≡ number_rule id.now }
+    ensures local { result.global ≡ false }
+{
+    Arg::new(alloc, id).long(id).value_name(name).help(help)
 }
 
 /// `--json`.

@@ -1,13 +1,14 @@
 //! The program: `linda_kt replay` reads a scenario, from a file or standard input, makes its steps and writes the report
-//! to standard output. `linda_kt run` runs one by a thread for each node. With `--store FILE` checkpoints are kept in a
-//! file. `linda_kt resume --store FILE` and `linda_kt run --resume --store FILE` go on from such a file after a stop,
-//! and `linda_kt migrate --store FILE` carries one of the version before over. `linda_kt check` reads a scenario alone,
-//! and `linda_kt explain NUMBER` says what a number means.
+//! to standard output. `linda_kt run` runs one by a thread for each node, several times where that is asked for, or with
+//! random faults. With `--store FILE` checkpoints are kept in a file. `linda_kt resume --store FILE` and
+//! `linda_kt run --resume --store FILE` go on from such a file after a stop, and `linda_kt migrate --store FILE` carries
+//! one of the version before over. `linda_kt check` reads a scenario alone, and `linda_kt explain NUMBER` says what a
+//! number means.
 //!
 //! - Contract: `run_program`, clause `told`: words without a fault do their command over the store that they name, and
 //!   the exit status says how it ended; what `linda_kt` writes is what that command may write.
-//! - Stands on: kt_tuple, kt_store, kt_sql_tables, kt_sql, kt_scene, kt_stage, kt_run, kt_words, kt_command; of the kit: sqlite,
-//!   clap, os, thiserror
+//! - Stands on: kt_tuple, kt_chaos, kt_store, kt_sql_tables, kt_sql, kt_scene, kt_stage, kt_run, kt_trials, kt_words,
+//!   kt_command; of the kit: sqlite, clap, os, thiserror
 //! - Begin in: `program.rt`; the grammar of the words is in `grammar.rt`, and what they ask in `words.rt`.
 #![tactic(auto)]
 
@@ -24,6 +25,7 @@ mod progress;
 mod run_tests;
 #[cfg(test)]
 mod tests;
+mod trials;
 mod words;
 
 use crate::files::Files;

@@ -1,13 +1,14 @@
 //! What the words of the command line ask.
-//! Cited by program.rt.
+//! Cited by program.rt, trials.rt.
 ghost use Rattle.std.specs.Prelude.{◌≡◌, ◌⊎◌, IfOk, Some, option_map};
 ghost use Rattle.clap.specs.Words.{FailsBy, HasKind, first_of, found_of, kind_of, rows_of};
 ghost use Rattle.kt_command.specs.Asking.{asked, task_of};
 ghost use Rattle.kt_command.specs.Command.{texts};
 ghost use Rattle.linda_kt.specs.Words.{asked_by, asked_of, done_of, has_flag, kinds_of, made_of, reads};
-ghost use Rattle.linda_kt.specs.Words.{required_text, scenario_of, telling_of, told_as, words_fault};
+ghost use Rattle.linda_kt.specs.Words.{required_text, run_or_made_of, scenario_of, telling_of, told_as, words_fault};
 
 use crate::grammar::command_line;
+use crate::trials::{chaos_of, repeated_of};
 use clap::error::ErrorKind;
 use clap::{ArgMatches, Error};
 use kt_command::{Command, Request, Task, Telling};
@@ -23,6 +24,18 @@ pub enum Misfit {
     NoFile,
     /// No shell has the name.
     NoShell,
+    /// How often is no number, or not within its limits.
+    WrongTimes,
+    /// How many random fault lines is no number, or not within its limits.
+    WrongChaos,
+    /// The seed is no number, or has more than 64 bits.
+    WrongSeed,
+    /// Random fault lines are asked for, and no seed is named.
+    NoSeed,
+    /// A seed is named, and no random fault lines are asked for.
+    NoChaos,
+    /// Several runs are asked for, and something that only one run can have.
+    OneRun,
 }
 
 /// What the words ask. The words are those after the program's name. Words that ask nothing are an error of `clap`,
@@ -90,7 +103,17 @@ fn task_of<'a>(name: &str, options: &ArgMatches<'a>) -> Result<Task<'a>, Misfit>
         let store = required_text(options, "store");
         Ok(Task::Migrate { store })
     } else {
-        made_of(name, options)
+        run_or_made_of(name, options)
+    }
+}
+
+/// What a command and its own words ask that may ask for several runs.
+fn run_or_made_of<'a>(name: &str, options: &ArgMatches<'a>) -> Result<Task<'a>, Misfit>
+    ensures { told_as task_of result ≡ run_or_made_of name.now (rows_of (found_of options.now)) }
+{
+    match text_of(options, "times") {
+        Some(times) => repeated_of(times, options),
+        None => made_of(name, options),
     }
 }
 
@@ -103,8 +126,12 @@ fn made_of<'a>(name: &str, options: &ArgMatches<'a>) -> Result<Task<'a>, Misfit>
     if is_resumed && store.is_none() {
         return Err(Misfit::NoFile);
     }
+    let chaos = chaos_of(options)?;
     match Command::of_name(name, is_resumed, has_flag(options, "journal")) {
-        Some(command) => Ok(Task::Make { command, store }),
+        Some(command) => Ok(Task::Make {
+            command: command.with_chaos(chaos),
+            store,
+        }),
         None => Err(Misfit::NoCommand),
     }
 }
@@ -133,7 +160,7 @@ fn telling_of(options: &ArgMatches<'_>) -> Telling
 }
 
 /// The text of an option, or none.
-fn text_of<'a>(options: &ArgMatches<'a>, id: &str) -> Option<&'a str>
+pub(crate) fn text_of<'a>(options: &ArgMatches<'a>, id: &str) -> Option<&'a str>
     ensures { option_map (λ s. s.now) result ≡ first_of id.now (rows_of (found_of options.now)) }
 {
     options.get_str(id)
@@ -150,7 +177,7 @@ fn required_text<'a>(options: &ArgMatches<'a>, id: &str) -> &'a str
 }
 
 /// Whether the flag stands among a command's words.
-fn has_flag(options: &ArgMatches<'_>, flag: &str) -> bool
+pub(crate) fn has_flag(options: &ArgMatches<'_>, flag: &str) -> bool
     ensures { result ≡ has_flag flag.now (rows_of (found_of options.now)) }
 {
     // Of a flag that stands there the text is that of `true`.
@@ -164,20 +191,35 @@ fn has_flag(options: &ArgMatches<'_>, flag: &str) -> bool
 fn refuse(alloc: Global, misfit: Misfit) -> Error
     ensures { HasKind (kinds_of misfit) result }
 {
-    let (kind, message) = match misfit {
-        Misfit::NoCommand => (ErrorKind::MissingSubcommand, "the words name no command"),
-        Misfit::NoFile => (
-            ErrorKind::MissingRequiredArgument,
-            "the argument '--resume' wants '--store <FILE>'",
-        ),
-        Misfit::NoShell => (
-            ErrorKind::InvalidValue,
-            "the words that complete a shell are there for bash, zsh and fish",
-        ),
+    let kind = match misfit {
+        Misfit::NoCommand => ErrorKind::MissingSubcommand,
+        Misfit::NoFile | Misfit::NoSeed | Misfit::NoChaos => ErrorKind::MissingRequiredArgument,
+        Misfit::NoShell => ErrorKind::InvalidValue,
+        Misfit::WrongTimes | Misfit::WrongChaos | Misfit::WrongSeed => ErrorKind::ValueValidation,
+        Misfit::OneRun => ErrorKind::ArgumentConflict,
     };
-    match refusal(alloc, kind, message) {
+    match refusal(alloc, kind, words_for(misfit)) {
         Ok(error) => error,
         Err(error) => Error::from(error),
+    }
+}
+
+/// What that error says.
+fn words_for(misfit: Misfit) -> &'static str {
+    match misfit {
+        Misfit::NoCommand => "the words name no command",
+        Misfit::NoFile => "the argument '--resume' wants '--store <FILE>'",
+        Misfit::NoShell => "the words that complete a shell are there for bash, zsh and fish",
+        Misfit::WrongTimes => "the argument '--times <N>' wants a number from 1 to 10000",
+        Misfit::WrongChaos => "the argument '--chaos <N>' wants a number from 1 to 10000",
+        Misfit::WrongSeed => {
+            "the argument '--seed <K>' wants a number from 0 to 18446744073709551615"
+        }
+        Misfit::NoSeed => "the argument '--chaos <N>' wants '--seed <K>'",
+        Misfit::NoChaos => "the argument '--seed <K>' wants '--chaos <N>'",
+        Misfit::OneRun => {
+            "the argument '--times <N>' cannot be used with '--store', '--journal', '--resume' or '--chaos'"
+        }
     }
 }
 

@@ -1,5 +1,5 @@
 -- What comes before a run with random faults.
--- Cited by Behind, chaos.rt, `chaos::push_remarks`.
+-- Cited by Behind, chaos.rt, `chaos::laid_told`, `chaos::push_remarks`.
 use Rattle.std.specs.Prelude.{◌≡◌, ℕ, List}
 use Rattle.kt_scenario.specs.Scene.{SceneModel}
 use Rattle.kt_scenario.specs.declared.faults.Fault.{Fault}

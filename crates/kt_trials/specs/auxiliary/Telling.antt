@@ -1,5 +1,5 @@
 -- What comes before a tally is written.
--- Cited by Firsts, Told, tally.rt, times.rt, `tally::tally_of`, `times::reports_of`.
+-- Cited by Firsts, Told, tally.rt, times.rt, `tally::tally_of`, `times::reports_of`, `times::tally_read`.
 use Rattle.std.specs.Prelude.{◌≡◌, ℕ, Bool, List, map, bytes_eq}
 use Rattle.std.specs.Global.{Vec}
 use Rattle.std.specs.List.{list_any}
