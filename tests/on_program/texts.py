@@ -213,6 +213,11 @@ HELP_OF_RUN = report(
     "      --journal       Writes the report as remarks, and then the steps that were made, as a scenario for replay or"
     " resume",
     "      --resume        Goes on from what FILE holds, after the program was stopped; it need not be fresh then",
+    "      --times <N>     Runs the scenario N times, from 1 to 10000, each time over a store of its own in memory, and writes"
+    " each different report once, behind how often it came",
+    "      --chaos <N>     Adds N random fault lines, from 1 to 10000, and writes each of them as a remark before the report, so"
+    " that it can be kept; wants --seed",
+    "      --seed <K>      Which fault lines --chaos adds: for one number and one scene always the same ones",
     "      --explain       Says behind the line of a fault why it came, as on a terminal without the flag, and behind a"
     " report what it came to",
     "      --json          Says what --explain says as one JSON object on a line",
