@@ -1,5 +1,4 @@
 -- What a request asks a program to do.
--- Cited by request.rt; other crates.
 use Rattle.std.specs.Prelude.{option_map}
 use Rattle.kt_command.specs.declared.request.Request.{Request}
 use Rattle.kt_command.specs.declared.request.Request.TheVariants as requests

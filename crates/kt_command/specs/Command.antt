@@ -1,6 +1,6 @@
 -- The names of the commands, and the words of a process.
--- Cited by carries.rt, command.rt, opens.rt, shows.rt, specs/Asking, specs/Carried, specs/Opened, specs/Shown,
---   specs/Silence, texts.rt, words.rt, `words::words_behind`; other crates.
+-- Cited by carries.rt, command.rt, opens.rt, specs/Asking, specs/Carried, specs/Opened, words.rt,
+--   `words::words_behind`; other crates.
 use Rattle.std.specs.Prelude.{ℕ, Bool, true, false, if◌then◌else◌, nat_eq, List, Option, None, Some, codes, map, String}
 use Rattle.std.specs.Prelude.{string_bytes, drop}
 use Rattle.std.specs.Borrow.{Bor}

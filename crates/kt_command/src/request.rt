@@ -1,5 +1,5 @@
 //! What a program is asked to do, and how it does it.
-//! Cited by carrying.rt, explainer.rt, showing.rt; other crates.
+//! Cited by carrying.rt; other crates.
 ghost use Rattle.std.specs.Prelude.{◌≡◌, false, true};
 ghost use Rattle.kt_command.specs.Asking.{asked, task_of};
 ghost use Rattle.kt_command.specs.Opened.{EndsAsked, EndsOpened, EndsTask};

@@ -1,5 +1,4 @@
 -- What a parse by the program's own command line can give.
--- Cited by `words::read_words`.
 use Rattle.std.proofs.Common.{◌≡◌, List, [], ◌∷◌, Option, Some, None, option_map, ap, subst, sym, inl, inr, ◌∙◌, refl}
 use Rattle.std.specs.Prelude.{Result, Ok, Err, IsErrAnd}
 use Rattle.std.specs.Borrow.{Bor}

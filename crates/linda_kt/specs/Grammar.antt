@@ -1,5 +1,4 @@
 -- The grammar of the command line, as a shape of `clap`: each command with its options and its own words.
--- Cited by Parsed, grammar.rt, specs/Words.
 use Rattle.std.specs.Prelude.{true, [], ◌∷◌, Some, codes}
 use Rattle.clap.specs.Words.{App, Rule, Shape, Text, new_app, new_rule, with_subcommand}
 use Rattle.clap.specs.declared.builder.action.ArgAction.TheVariants.{SetTrue}

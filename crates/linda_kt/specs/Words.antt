@@ -1,6 +1,4 @@
 -- The words of the command line: what they ask, and what is wrong with them.
--- Cited by Parsed, Statuses, program.rt, specs/Status, trials.rt, words.rt, `program::run_arguments`,
---   `words::read_words`.
 use Rattle.std.specs.Prelude.{◌≡◌, ◌≢◌, ◌⊎◌, ℕ, Bool, true, false, not, ◌&&◌, ◌||◌, List, [], ◌∷◌, Option, None, Some}
 use Rattle.std.specs.Prelude.{codes, refl, Result, Ok, Err}
 use Rattle.std.specs.Prelude.{is_some, unwrap_or, if◌then◌else◌}

@@ -1,5 +1,5 @@
 //! What the words of the command line ask.
-//! Cited by program.rt, trials.rt.
+//! Cited by program.rt.
 ghost use Rattle.std.specs.Prelude.{◌≡◌, ◌⊎◌, ◌∷◌, [], IfOk, Some, option_map};
 ghost use Rattle.clap.specs.Words.{FailsBy, HasKind, first_of, found_of, kind_of, rows_of};
 ghost use Rattle.kt_command.specs.Asking.{asked, task_of};
