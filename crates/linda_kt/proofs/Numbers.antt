@@ -1,51 +1,40 @@
 -- A text that is parsed, and the number that it writes.
--- Cited by no other file of crates/.
-use Rattle.std.proofs.Common.{◌≡◌, ◌∙◌, ◌≤◌, ◌<◌, ◌^◌, ℕ, Bool, true, false, Option, None, Some, Result, Ok, Err, refl, sym, ap, subst, arith}
-use Rattle.std.specs.Prelude.{if◌then◌else◌}
-use Rattle.std.specs.Str.Parse.{ParsesUnsigned, digits_value, without_leading_plus}
+-- Cited by `trials::number_of`, `trials::times_of`.
+use Rattle.std.proofs.Common.{◌≡◌, ◌∙◌, ◌≤◌, ◌<◌, ◌^◌, ℕ, Bool, true, false, Option, None, Some, refl, sym, ap, subst, arith}
+use Rattle.std.specs.Prelude.{IfSome, IsSome, if◌then◌else◌}
+use Rattle.std.specs.Str.Parse.{IsNumeral, digits_value, without_leading_plus}
 use Rattle.clap.specs.Values.{IsUnsignedIn}
 use Rattle.clap.specs.ValueTests.{is_unsigned_in}
 use Rattle.clap.specs.declared.builder.value_parser.ValueParser.TheVariants as parsers
 use Rattle.clap.proofs.ValueTestLemmas.{Accepts-accepts, accepts-Accepts}
 use Rattle.kt_command.specs.Command.{Text}
-use Rattle.linda_kt.specs.Numbers.{number_in}
+use Rattle.linda_kt.specs.Numbers.{number_of}
 
-module _ (least most : ℕ) (text : Text) where
-  value : ℕ
-  value = digits_value 10 (without_leading_plus text)
+abbrev most : ℕ
+most = 18446744073709551615
 
-  -- a text that passes the test writes its number
-  is_in : IsUnsignedIn least most text → number_in least most text ≡ Some value
-  is_in passed =
-      let test : is_unsigned_in least most text ≡ true = Accepts-accepts false (parsers.Unsigned least most) text passed in
-      ap (λ (b : Bool). if b then Some value else None) test
+abbrev value : Text → ℕ
+value text = digits_value 10 (without_leading_plus text)
 
-  -- and one that does not writes none
-  is_out : (IsUnsignedIn least most text → ⊥) → number_in least most text ≡ None
-  is_out fails = by_test (is_unsigned_in least most text) refl
-    where
-      by_test : (b : Bool) → is_unsigned_in least most text ≡ b → (if b then Some value else None) ≡ None
-      by_test true test = absurd (fails (accepts-Accepts false (parsers.Unsigned least most) text test))
-      by_test false test = refl
+-- a text that is parsed writes its number
+pub parsed : (text : Text) (n : ℕ) → IsNumeral 10 (without_leading_plus text) → value text < 2 ^ 64 → n ≡ value text → Some n ≡ number_of text
+parsed text n numeral small is =
+    let at_most : value text ≤ most = omega arith in
+    let at_least : 0 ≤ value text = omega arith in
+    let test : is_unsigned_in 0 most text ≡ true = Accepts-accepts false (parsers.Unsigned 0 most) text (numeral, small, at_least, at_most) in
+    ap Some is ∙ sym (ap (λ (b : Bool). if b then Some (value text) else None) test)
 
-  module _ {E : Type 0} (k : ℕ) where
-    -- a number of the range that is parsed
-    pub parsed_in : (n : ℕ) → ParsesUnsigned {E} k 10 text (Ok n) → most < 2 ^ 64 → least ≤ n → n ≤ most
-        → Some n ≡ number_in least most text
-    parsed_in n h wide low high =
-        let at_least : least ≤ value = subst (λ (m : ℕ). least ≤ m) h.1 low in
-        let at_most : value ≤ most = subst (λ (m : ℕ). m ≤ most) h.1 high in
-        let small : value < 2 ^ 64 = omega arith in
-        ap Some h.1 ∙ sym (is_in (h.0.0, small, at_least, at_most))
+-- and one that is not writes none
+pub not_parsed : (text : Text) → (IsNumeral 10 (without_leading_plus text) × (value text < 2 ^ 64) → ⊥) → None ≡ number_of text
+not_parsed text h = by_test (is_unsigned_in 0 most text) refl
+  where
+    by_test : (b : Bool) → is_unsigned_in 0 most text ≡ b → None ≡ (if b then Some (value text) else None)
+    by_test true test =
+        let within : IsUnsignedIn 0 most text = accepts-Accepts false (parsers.Unsigned 0 most) text test in
+        absurd (h (within.0, within.1))
+    by_test false test = refl
 
-    -- one below it or above it
-    pub parsed_out : (n : ℕ) → ParsesUnsigned {E} k 10 text (Ok n) → ((least ≤ n) × (n ≤ most) → ⊥) → None ≡ number_in least most text
-    parsed_out n h outside =
-        sym (is_out (λ within. outside (subst (λ (m : ℕ). least ≤ m) (sym h.1) within.2, subst (λ (m : ℕ). m ≤ most) (sym h.1) within.3)))
-
-    -- and what is not parsed
-    pub not_parsed : (e : E) → ParsesUnsigned {E} k 10 text (Err e) → most < 2 ^ k → None ≡ number_in least most text
-    not_parsed e h wide =
-        sym (is_out (λ within.
-        let small : value < 2 ^ k = omega (arith, within.3) in
-        h (within.0, small)))
+-- a number that is there
+pub some_is : (o : Option ℕ) (n : ℕ) → IfSome o (λ t. t ≡ n) → IsSome o → o ≡ Some n
+some_is None n is there = absurd there
+some_is (Some t) n is there = ap Some is

@@ -30,7 +30,7 @@ use Rattle.linda_kt.specs.Grammar.{command_line_app}
 use Rattle.linda_kt.specs.declared.words.Misfit.{Misfit}
 use Rattle.linda_kt.specs.declared.words.Misfit.TheVariants.{NoChaos, NoCommand, NoFile, NoSeed, NoShell, OneRun}
 use Rattle.linda_kt.specs.declared.words.Misfit.TheVariants.{WrongChaos, WrongSeed, WrongTimes}
-use Rattle.linda_kt.specs.Numbers.{count_of, seed_of, times_of}
+use Rattle.linda_kt.specs.Numbers.{count_of, number_of, times_of}
 
 -- a flag stands among a command's words: its text is that of `true` then
 abbrev pub is_true : Option Text → Bool
@@ -72,7 +72,7 @@ counted None seed = Err WrongChaos
 counted (Some count) seed = seeded count seed
 
 abbrev pub chaos_by : Text → Text → Result (Option Chaos) Misfit
-chaos_by count seed = counted (count_of count) (seed_of seed)
+chaos_by count seed = counted (count_of count) (number_of seed)
 
 -- how many random fault lines are asked for, and by which seed: both stand there or neither
 abbrev pub chaos_given : Option Text → Option Text → Result (Option Chaos) Misfit

@@ -1,9 +1,9 @@
 //! What the words ask of several runs, and of random fault lines.
 //! Cited by words.rt.
-ghost use Rattle.std.specs.Prelude.{◌≡◌, ◌≤◌, IfSome};
+ghost use Rattle.std.specs.Prelude.{◌≡◌, ◌≤◌, IfSome, Some};
 ghost use Rattle.clap.specs.Words.{found_of, rows_of};
 ghost use Rattle.kt_command.specs.Asking.{task_of};
-ghost use Rattle.linda_kt.specs.Numbers.{count_of, number_in, seed_of, times_of};
+ghost use Rattle.linda_kt.specs.Numbers.{count_of, in_range, number_of, times_of};
 ghost use Rattle.linda_kt.specs.Words.{chaos_by, chaos_of, is_of_one_run, repeated_of, told_as};
 
 use crate::words::{Misfit, has_flag, text_of};
@@ -59,7 +59,7 @@ fn chaos_by(count: &str, seed: &str) -> Result<Option<Chaos>, Misfit>
     let Some(count) = count_of(count) else {
         return Err(Misfit::WrongChaos);
     };
-    let Some(seed) = seed_of(seed) else {
+    let Some(seed) = number_of(seed) else {
         return Err(Misfit::WrongSeed);
     };
     Ok(Some(Chaos { count, seed }))
@@ -84,25 +84,33 @@ fn count_of(text: &str) -> Option<u32>
 
 /// The text as a number from 1 to `most`.
 fn number_up_to(text: &str, most: u32) -> Option<u32>
-    ensures value { result ≡ number_in 1 most text.now }
+    ensures value { result ≡ in_range 1 most (number_of text.now) }
     ensures within { IfSome result (λ n. (1 ≤ n) × (n ≤ most)) }
 {
-    let Ok(number) = text.parse::<u32>() else {
-        return None;
-    };
-    if 1 <= number && number <= most {
-        Some(number)
+    match number_of(text) {
+        Some(number) => up_to(number, most),
+        None => None,
+    }
+}
+
+/// The number, where it is from 1 to `most`.
+fn up_to(number: u64, most: u32) -> Option<u32>
+    ensures value { result ≡ in_range 1 most (Some number) }
+    ensures within { IfSome result (λ n. (1 ≤ n) × (n ≤ most)) }
+{
+    if 1 <= number && number <= u64::from(most) {
+        Some(number as u32)
     } else {
         None
     }
 }
 
-/// The text as a seed.
-fn seed_of(text: &str) -> Option<u64>
-    ensures { result ≡ seed_of text.now }
+/// The text as a number.
+fn number_of(text: &str) -> Option<u64>
+    ensures { result ≡ number_of text.now }
 {
     match text.parse::<u64>() {
-        Ok(seed) => Some(seed),
+        Ok(number) => Some(number),
         Err(_) => None,
     }
 }

@@ -1,6 +1,6 @@
 //! What the words of the command line ask.
 //! Cited by program.rt, trials.rt.
-ghost use Rattle.std.specs.Prelude.{◌≡◌, ◌⊎◌, IfOk, Some, option_map};
+ghost use Rattle.std.specs.Prelude.{◌≡◌, ◌⊎◌, ◌∷◌, [], IfOk, Some, option_map};
 ghost use Rattle.clap.specs.Words.{FailsBy, HasKind, first_of, found_of, kind_of, rows_of};
 ghost use Rattle.kt_command.specs.Asking.{asked, task_of};
 ghost use Rattle.kt_command.specs.Command.{texts};
@@ -191,14 +191,25 @@ pub(crate) fn has_flag(options: &ArgMatches<'_>, flag: &str) -> bool
 fn refuse(alloc: Global, misfit: Misfit) -> Error
     ensures { HasKind (kinds_of misfit) result }
 {
-    let kind = match misfit {
-        Misfit::NoCommand => ErrorKind::MissingSubcommand,
-        Misfit::NoFile | Misfit::NoSeed | Misfit::NoChaos => ErrorKind::MissingRequiredArgument,
-        Misfit::NoShell => ErrorKind::InvalidValue,
-        Misfit::WrongTimes | Misfit::WrongChaos | Misfit::WrongSeed => ErrorKind::ValueValidation,
-        Misfit::OneRun => ErrorKind::ArgumentConflict,
-    };
-    match refusal(alloc, kind, words_for(misfit)) {
+    let words = words_for(misfit);
+    match misfit {
+        Misfit::NoCommand => refuse_as(alloc, ErrorKind::MissingSubcommand, words),
+        Misfit::NoFile | Misfit::NoSeed | Misfit::NoChaos => {
+            refuse_as(alloc, ErrorKind::MissingRequiredArgument, words)
+        }
+        Misfit::NoShell => refuse_as(alloc, ErrorKind::InvalidValue, words),
+        Misfit::WrongTimes | Misfit::WrongChaos | Misfit::WrongSeed => {
+            refuse_as(alloc, ErrorKind::ValueValidation, words)
+        }
+        Misfit::OneRun => refuse_as(alloc, ErrorKind::ArgumentConflict, words),
+    }
+}
+
+/// An error of this kind that says so, or the want of memory for it.
+fn refuse_as(alloc: Global, kind: ErrorKind, message: &str) -> Error
+    ensures { HasKind (kind ∷ []) result }
+{
+    match refusal(alloc, kind, message) {
         Ok(error) => error,
         Err(error) => Error::from(error),
     }
