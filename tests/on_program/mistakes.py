@@ -6,10 +6,9 @@ Most are one slip in the scenario of docs/FORMATS.md. What once was a mistake an
 import contextlib
 import os
 import sqlite3
-import subprocess
 import tempfile
 
-from on_program.starting import CLOSED, FOLDER, PROGRAM, SECONDS, Starts, scenario, start, tell, told
+from on_program.starting import CLOSED, FOLDER, Starts, scenario, start, tell, told
 from on_program.texts import NO_STEPS, PUT_AND_TAKE
 
 TEXT = b"""linda-kt 1
@@ -243,7 +242,8 @@ def of_stores():
         yield told("mistake: nothing is left beside what is no store", there, sorted(os.listdir(folder)))
         checked = scenario("checkpoint_of_two")
         start(["replay", "--store", used], checked, b"")
-        yield from explained("a store that was used", ["replay", "--store", used], checked, "store: NotFresh", [USED], 5)
+        words = ["replay", "--store", used]
+        yield from explained("a store that was used", words, checked, "store: NotFresh", [USED], 5)
         yield from of_database(used)
         text = put(4, 'out ("a",1)')
         said = ['out ("a",1)', "         ^", "one space stands behind a comma: put it here"]
@@ -301,11 +301,11 @@ def no_mistakes():
         _, errors, status = start(["run", "--json"], FAULTS, b"")
         yield told("no mistake: `--json`", (True, 0), (errors.startswith(b'{"status":0,'), status))
         start(["replay", "--store", store], scenario("no_steps"), b"")
-        yield tell("no mistake: the store of a replay that stored nothing", done, start(["replay", "--store", store], TEXT, b""))
-        fronted = [PROGRAM, "run", "--journal", "j.scn"]
-        ran = subprocess.run(fronted, stdin=subprocess.DEVNULL, capture_output=True, timeout=SECONDS)
-        absent = b"scenario: j.scn: No such file or directory (os error 2)\n"
-        yield tell("no mistake: `--journal FILE` names the scenario", (b"", absent, 7), (ran.stdout, ran.stderr, ran.returncode))
+        got = start(["replay", "--store", store], TEXT, b"")
+        yield tell("no mistake: the store of a replay that stored nothing", done, got)
+        absent = (b"", b"scenario: j.scn: No such file or directory (os error 2)\n", 7)
+        got = start(["run", "--journal", "j.scn"], CLOSED, b"", folder=folder)
+        yield tell("no mistake: `--journal FILE` names the scenario", absent, got)
     truths = put(4, "out (true)").replace(b'in ("a", ?int x)', b"in (?bool x)")
     yield told("no mistake: a bool", 0, start(["replay"], truths, b"")[2])
     sixteen = b"linda-kt 1\nshards 1\n" + b"worker\n" * 16 + b"steps\nend\n"

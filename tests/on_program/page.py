@@ -121,8 +121,8 @@ def mistakes(page, scenario):
 
 
 def shown_texts(blocks):
-    """What the page shows of explanations and of a store: the texts as they stand, JSON without the breaks of its lines.
-    A store's JSON has no line feed behind it."""
+    """What the page shows of explanations and of a store: the texts as they stand, JSON without the breaks of its
+    lines. A store's JSON has no line feed behind it."""
     summary, shown = (inside.encode() for language, inside in blocks if language == "text")
     explained, content = (inside.replace("\n", "").encode() for language, inside in blocks if language == "json")
     failed = start(["replay", "--explain", f"{ROOT}/scenarios/shard_fails.scn"], b"", b"")

@@ -91,9 +91,10 @@ def compared(store, content, words, ended):
     yield tell("show: a store as JSON", ((nodes, instances), b"", 0), (counted, *ended))
     shards = [(node["permanent"] or {}).get("shard") for node in content["nodes"]]
     tuples = [values for shard in shards if shard for values in shard["tuples"]]
-    yield told("show: tuples are lists of values", True, bool(tuples) and all(isinstance(values, list) for values in tuples))
-    lines = words.decode().splitlines()
-    in_words = [sum(line.startswith(head) for line in lines) for head in ("node ", "    tuple ", "  instance ", "open: ")]
+    are_lists = bool(tuples) and all(isinstance(values, list) for values in tuples)
+    yield told("show: tuples are lists of values", True, are_lists)
+    lines, heads = words.decode().splitlines(), ("node ", "    tuple ", "  instance ", "open: ")
+    in_words = [sum(line.startswith(head) for line in lines) for head in heads]
     tentative = [(node["tentative"] or {}).get("checkpoint", {}).get("shard") for node in content["nodes"]]
     also = sum(len(shard["tuples"]) for shard in tentative if shard)
     wanted = [nodes, len(tuples) + also, instances, len(content["open"])]
@@ -119,7 +120,8 @@ def not_shown(folder):
     ):
         yield tell(f"show: {name}", (b"", said, 5), start(["show", path], b"", b""))
         yield tell(f"show: {name}, as JSON", (b"", said, 5), start(["show", "--json", path], b"", b""))
-    for words, said in ((["show"], b"nothing is stored\n"), (["show", "--json"], b'{"nodes":[],"instances":[],"open":[]}')):
+    nothing = b'{"nodes":[],"instances":[],"open":[]}'
+    for words, said in ((["show"], b"nothing is stored\n"), (["show", "--json"], nothing)):
         yield tell("show: an empty file", (said, b"", 0), start([*words, f"{folder}/empty.db"], b"", b""))
     yield told("show: none of these is touched", before, digest(folder))
     busy = f"{folder}/busy.db"
@@ -137,9 +139,10 @@ def temporary(folder, store):
     """The copy lies among the temporary files, and is gone when the program has ended."""
     place = f"{folder}/temporary"
     os.mkdir(place)
+    no_copy = b"store: it can't be copied to the folder for temporary files\n"
     for name, path, want in (
         ("in a folder of one's own", place, (None, b"", 0)),
-        ("where there is no folder", f"{place}/none", (None, b"store: it can't be copied to the folder for temporary files\n", 5)),
+        ("where there is no folder", f"{place}/none", (None, no_copy, 5)),
     ):
         _, errors, status = start([f"TMPDIR={path}", PROGRAM, "show", store], b"", b"", program="/usr/bin/env")
         yield tell(f"show: the copy {name}", want, (None, errors, status))
@@ -190,14 +193,15 @@ def endings():
     said, errors, status = start(["run", "--journal", "--explain"], text, b"")
     # A journal tells of one run among many, so its first line alone is compared.
     is_journal = said.startswith(b"# " + A_SHARD_FAILS.split(b"\n")[0])
-    yield told("explained: the end of a run with its journal", (True, True, 0), (is_journal, bool(RUN.fullmatch(errors)), status))
-    nothing = b'{"status":0,"explanation":[]}\n'
-    yield tell("as JSON: a check has nothing to say", (b"faults 1\n", nothing, 0), start(["check", "--json"], text, b""))
-    yield tell("explained: nor has it in words", (b"faults 1\n", b"", 0), start(["check", "--explain"], text, b""))
+    got = (is_journal, bool(RUN.fullmatch(errors)), status)
+    yield told("explained: the end of a run with its journal", (True, True, 0), got)
+    one, nothing = b"faults 1\n", b'{"status":0,"explanation":[]}\n'
+    yield tell("as JSON: a check has nothing to say", (one, nothing, 0), start(["check", "--json"], text, b""))
+    yield tell("explained: nor has it in words", (one, b"", 0), start(["check", "--explain"], text, b""))
     said, errors, status = start(["replay", "--json"], b"linda-kt 2\n", b"")
     explanation = ["linda-kt 2", "^", "this program reads version 1: write `linda-kt 1`"]
-    lines = b"line 1: 1 Header\n" + json.dumps({"status": 3, "explanation": explanation}, separators=(",", ":")).encode() + b"\n"
-    yield tell("as JSON: a fault", (b"", lines, 3), (said, errors, status))
+    whole = json.dumps({"status": 3, "explanation": explanation}, separators=(",", ":"))
+    yield tell("as JSON: a fault", (b"", f"line 1: 1 Header\n{whole}\n".encode(), 3), (said, errors, status))
     with tempfile.TemporaryDirectory() as folder:
         store = f"{folder}/a.db"
         start(["replay", "--store", store], scenario("checkpoint_of_two"), b"")

@@ -1,4 +1,4 @@
-"""What a person sees at a terminal: why a fault came without a flag, that a scenario is awaited, and how long it takes."""
+"""What a person sees at a terminal: why a fault came, without a flag; that a scenario is awaited; how long it takes."""
 
 import os
 import pty
@@ -50,7 +50,8 @@ def terminals():
     text = scenario("put_and_take")
     yield tell("watched: a report has nothing beside it", (PUT_AND_TAKE, b"", 0), watched(["replay"], text))
     said, shown, status = watched(["replay"], b"linda-kt 2\n")
-    lines = [b"line 1: 1 Header", b"  linda-kt 2", b"           ^", b"  this program reads version 1: write `linda-kt 1`", b""]
+    said_of_it = b"  this program reads version 1: write `linda-kt 1`"
+    lines = [b"line 1: 1 Header", b"  linda-kt 2", b"           ^", said_of_it, b""]
     yield tell("watched: a fault is explained", (b"", b"\r\n".join(lines), 3), (said, shown, status))
     said, shown, status = watched(["replay", "--json"], b"linda-kt 2\n")
     is_json = shown.startswith(b'line 1: 1 Header\r\n{"status":3,"explanation":["linda-kt 2"')
@@ -61,7 +62,8 @@ def terminals():
         b"  no service was lost",
         b"",
     ]
-    yield tell("watched: a report is explained where that is asked for", (PUT_AND_TAKE, b"\r\n".join(lines), 0), (said, shown, status))
+    wanted = (PUT_AND_TAKE, b"\r\n".join(lines), 0)
+    yield tell("watched: a report is explained where that is asked for", wanted, (said, shown, status))
     # It waits for its input, so the seconds go by.
     said, shown, status = watched(["replay"], text, pause=2.5)
     is_shown = shown.startswith(b"\r1 s\r") and b"\r2 s\r" in shown and shown.endswith(b"\r\x1b[K")
