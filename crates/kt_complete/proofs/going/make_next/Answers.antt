@@ -27,7 +27,7 @@ returns-in-Some-clause-held_up g c =
 
 pub returns-in-Some-clause-counts : goal.returns-in-Some-clause-counts
 returns-in-Some-clause-counts g c =
-    refused_counted c.in-Err-step.cause c.args.world.now.counts c.next_among.new.world.counts c.step.new.self.counts c.in-Err-step.ensures.counts
+    refused_counted {X = Unit {0}} {Y = Option Step} c.in-Err-step.cause c.args.world.now.counts c.next_among.new.world.counts c.step.new.self.counts c.in-Err-step.ensures.counts
     c.in-Ok.ensures.counts
 
 -- no node has a next step
