@@ -34,6 +34,8 @@ def several():
     """`run --times N` writes each different report once, behind how often it came."""
     yield tell("--times 1", (b"# 1 of 1 runs\n" + A_SHARD_FAILS, b"", 0), start(["run", "--times", "1"], FAULTS, b""))
     yield tell("--times=20", (b"# 20 of 20 runs\n" + A_SHARD_FAILS, b"", 0), start(["run", "--times=20"], FAULTS, b""))
+    done = (b"# 2 of 2 runs\n" + ONE_PUT, b"", 0)
+    yield tell("--times +02", done, start(["run", "--times", "+02"], NOBODY_FAILS, b""))
     said, errors, status = start(["run", "--times", "200"], RACE, b"")
     tally = tallied(said)
     yield told("--times of a race", ([], 200, {200}, len(tally), b"", 0), (

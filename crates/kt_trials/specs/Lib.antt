@@ -1,3 +1,4 @@
+pub mod Times
 pub mod Memory
 pub mod Tally
 pub mod Runs

@@ -1,11 +1,12 @@
 //! From the bytes of a scenario of fault lines to the bytes of the tally of its runs.
 //! Cited by tests.rt; other crates.
 
-ghost use Rattle.std.specs.Prelude.{◌≡◌, ◌≤◌, ◌↔◌, All, length, Err, IfErr, IfOk, IfSome, IsSome, OnOk};
+ghost use Rattle.std.specs.Prelude.{◌≡◌, ◌≤◌, All, length, Err, IfErr, IfOk, OnOk};
 ghost use Rattle.kt_scene.specs.declared.fault.ReplayFault.TheVariants as text_faults;
 ghost use Rattle.kt_run.specs.Run.{UnlessFront};
 ghost use Rattle.kt_trials.specs.Runs.{IsOneFault, IsRunReport, IsTallyFault, WritesTally, WritesTallyFront};
 ghost use Rattle.kt_trials.specs.Tally.{tally_text};
+ghost use Rattle.kt_trials.specs.Times.{times_of};
 ghost use Rattle.kt_trials.specs.auxiliary.Telling.{IsTally, IsTextStop, IsUnwritten, items_of};
 
 use crate::memory::told;
@@ -45,12 +46,13 @@ impl Model for Times {
 
 impl Times {
     /// So many times; `None` where that is not once, or more than `MAX_TIMES`.
-    pub fn new(number: u32) -> Option<Times>
-        ensures value { IfSome result (λ t. t ≡ number) }
-        ensures within { IsSome result ↔ ((1 ≤ number) × (number ≤ MAX_TIMES)) }
+    pub fn new(number: u64) -> Option<Times>
+        ensures { result ≡ times_of number }
     {
-        if 1 <= number && number <= MAX_TIMES {
-            Some(Times { number })
+        if 1 <= number && number <= u64::from(MAX_TIMES) {
+            Some(Times {
+                number: number as u32,
+            })
         } else {
             None
         }

@@ -1,7 +1,7 @@
 -- A text that is parsed, and the number that it writes.
 -- Cited by `trials::number_of`, `trials::times_of`.
 use Rattle.std.proofs.Common.{◌≡◌, ◌∙◌, ◌≤◌, ◌<◌, ◌^◌, ℕ, Bool, true, false, Option, None, Some, refl, sym, ap, subst, arith}
-use Rattle.std.specs.Prelude.{IfSome, IsSome, if◌then◌else◌}
+use Rattle.std.specs.Prelude.{if◌then◌else◌}
 use Rattle.std.specs.Str.Parse.{IsNumeral, digits_value, without_leading_plus}
 use Rattle.clap.specs.Values.{IsUnsignedIn}
 use Rattle.clap.specs.ValueTests.{is_unsigned_in}
@@ -33,8 +33,3 @@ not_parsed text h = by_test (is_unsigned_in 0 most text) refl
         let within : IsUnsignedIn 0 most text = accepts-Accepts false (parsers.Unsigned 0 most) text test in
         absurd (h (within.0, within.1))
     by_test false test = refl
-
--- a number that is there
-pub some_is : (o : Option ℕ) (n : ℕ) → IfSome o (λ t. t ≡ n) → IsSome o → o ≡ Some n
-some_is None n is there = absurd there
-some_is (Some t) n is there = ap Some is

@@ -1,6 +1,6 @@
 //! What the words ask of several runs, and of random fault lines.
 //! Cited by words.rt.
-ghost use Rattle.std.specs.Prelude.{◌≡◌, ◌≤◌, IfSome, Some};
+ghost use Rattle.std.specs.Prelude.{◌≡◌, Some};
 ghost use Rattle.clap.specs.Words.{found_of, rows_of};
 ghost use Rattle.kt_command.specs.Asking.{task_of};
 ghost use Rattle.linda_kt.specs.Numbers.{count_of, in_range, number_of, times_of};
@@ -9,7 +9,7 @@ ghost use Rattle.linda_kt.specs.Words.{chaos_by, chaos_of, is_of_one_run, repeat
 use crate::words::{Misfit, has_flag, text_of};
 use clap::ArgMatches;
 use kt_command::Task;
-use kt_trials::{Chaos, MAX_TIMES, Times};
+use kt_trials::{Chaos, Times};
 
 /// The most random fault lines that the words may ask for. So many have less than 200,000 bytes, so a scenario with
 /// them is seldom too long.
@@ -69,7 +69,7 @@ fn chaos_by(count: &str, seed: &str) -> Result<Option<Chaos>, Misfit>
 fn times_of(text: &str) -> Option<Times>
     ensures { result ≡ times_of text.now }
 {
-    match number_up_to(text, MAX_TIMES) {
+    match number_of(text) {
         Some(number) => Times::new(number),
         None => None,
     }
@@ -79,26 +79,17 @@ fn times_of(text: &str) -> Option<Times>
 fn count_of(text: &str) -> Option<u32>
     ensures { result ≡ count_of text.now }
 {
-    number_up_to(text, MAX_CHAOS)
-}
-
-/// The text as a number from 1 to `most`.
-fn number_up_to(text: &str, most: u32) -> Option<u32>
-    ensures value { result ≡ in_range 1 most (number_of text.now) }
-    ensures within { IfSome result (λ n. (1 ≤ n) × (n ≤ most)) }
-{
     match number_of(text) {
-        Some(number) => up_to(number, most),
+        Some(number) => count_from(number),
         None => None,
     }
 }
 
-/// The number, where it is from 1 to `most`.
-fn up_to(number: u64, most: u32) -> Option<u32>
-    ensures value { result ≡ in_range 1 most (Some number) }
-    ensures within { IfSome result (λ n. (1 ≤ n) × (n ≤ most)) }
+/// So many random fault lines, where so many may be asked for.
+fn count_from(number: u64) -> Option<u32>
+    ensures { result ≡ in_range 1 MAX_CHAOS (Some number) }
 {
-    if 1 <= number && number <= u64::from(most) {
+    if 1 <= number && number <= u64::from(MAX_CHAOS) {
         Some(number as u32)
     } else {
         None
