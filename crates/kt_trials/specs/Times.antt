@@ -1,4 +1,5 @@
 -- How often a scenario is run.
+-- Cited by times.rt.
 use Rattle.std.specs.Prelude.{ℕ, nat_le, ◌&&◌, Option, None, Some, if◌then◌else◌}
 use Rattle.kt_trials.specs.declared.times.TheConstants.{MAX_TIMES}
 
