@@ -43,7 +43,7 @@ const STATUSES: &[StatusWords] = &[
     },
     StatusWords {
         number: "7",
-        text: "Standard input or standard output failed: `read` or `write`.",
+        text: "Standard input, the file of the scenario or standard output failed: `read`, `write` or `scenario: FILE: ..`.",
     },
     StatusWords {
         number: "8",
