@@ -43,7 +43,8 @@ const STATUSES: &[StatusWords] = &[
     },
     StatusWords {
         number: "7",
-        text: "Standard input, the file of the scenario or standard output failed: `read`, `write` or `scenario: FILE: ..`.",
+        text: "Standard input, the file of the scenario or standard output failed: `read`, `write` or \
+               `scenario: FILE: ..`.",
     },
     StatusWords {
         number: "8",

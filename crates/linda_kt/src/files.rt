@@ -12,7 +12,8 @@ use sqlite::{Connection, File, FileStore};
 use std::alloc::Global;
 use std::{fs, io};
 
-/// Opens the store or the scenario in a file or a copy of a store, or carries a store over, by the runtime of the process.
+/// Opens the store or the scenario in a file or a copy of a store, or carries a store over, by the runtime of the
+/// process.
 #[derive(Drop)]
 pub struct Files<'a> {
     rt: &'a HostRuntime,

@@ -30,8 +30,8 @@ use std::sync::Wait;
 use std::thread::Threads;
 
 /// Runs the program on the arguments of its process, of which the first is its name. Arguments that
-/// are not text are wrong words. The store in a file and the scenario in one are opened by `opener`, and a run starts its
-/// threads by `threads`.
+/// are not text are wrong words. The store in a file and the scenario in one are opened by `opener`, and a run starts
+/// its threads by `threads`.
 pub fn run_arguments<
     D: Alter + Drop + Send,
     C: Drop,
@@ -142,8 +142,8 @@ fn run_texts<
 }
 
 /// Does what the words ask, which are those after the program's name, and answers the exit status.
-/// A fault is one line on `errors`, with what explains it where the words ask for that or where a person watches; of wrong
-/// words it is the text of `clap`.
+/// A fault is one line on `errors`, with what explains it where the words ask for that or where a person watches; of
+/// wrong words it is the text of `clap`.
 pub fn run_program<
     D: Alter + Drop + Send,
     C: Drop,
