@@ -60,7 +60,7 @@ unexplained_run_shape = record one_run_shape {
 }
 
 abbrev pub run_shape : Shape
-run_shape = record one_run_shape {
+run_shape = record unexplained_run_shape {
   rules = scenario_rule ∷ store_rule ∷ journal_rule ∷ resume_rule ∷ number_rule (codes "times")
       ∷ number_rule (codes "chaos") ∷ number_rule (codes "seed") ∷ explain_rule ∷ json_rule ∷ [];
 }
