@@ -14,7 +14,7 @@ use kt_tuple::{Answer, Kind, NodeId, Op, Place, Str, Template, Tuple, Value};
 use std::alloc::AllocError;
 
 /// A type with one JSON value for each of its values.
-pub(crate) trait AsJson {
+pub trait AsJson {
     ghost json_of: { Self → Json };
 
     /// Writes its JSON value behind what is written.
@@ -23,7 +23,7 @@ pub(crate) trait AsJson {
 }
 
 /// An array of their JSON values, in this order.
-pub(crate) fn push_array<T: AsJson>(out: &mut Draft, items: &[T]) -> Result<(), AllocError>
+pub fn push_array<T: AsJson>(out: &mut Draft, items: &[T]) -> Result<(), AllocError>
     ensures { OnOk result (out.new ≡ out.old ++ json_tokens (array_of (map T.json_of items.now))) }
 {
     out.begin_array()?;
@@ -35,7 +35,7 @@ pub(crate) fn push_array<T: AsJson>(out: &mut Draft, items: &[T]) -> Result<(), 
 }
 
 /// A member with the JSON value of this.
-pub(crate) fn push_member<T: AsJson>(
+pub fn push_member<T: AsJson>(
     out: &mut Draft,
     name: &str,
     value: &T,
@@ -47,7 +47,7 @@ pub(crate) fn push_member<T: AsJson>(
 }
 
 /// A member with the JSON value of this, or null where there is none.
-pub(crate) fn push_optional<T: AsJson>(
+pub fn push_optional<T: AsJson>(
     out: &mut Draft,
     name: &str,
     value: Option<&T>,
@@ -63,7 +63,7 @@ pub(crate) fn push_optional<T: AsJson>(
 }
 
 /// A member with an array of their JSON values.
-pub(crate) fn push_list<T: AsJson>(
+pub fn push_list<T: AsJson>(
     out: &mut Draft,
     name: &str,
     items: &[T],
