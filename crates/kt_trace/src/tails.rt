@@ -10,7 +10,7 @@ ghost use Rattle.std.specs.Option.{option_copied};
 use crate::heads::push_instance;
 use crate::traced::{Ruling, Saving, TracedStep};
 use kt_history::Note;
-use kt_node::{Message, Mode};
+use kt_state::{Message, Mode};
 use kt_tuple::NodeId;
 use kt_tuple::writing::push_number;
 use std::alloc::AllocError;

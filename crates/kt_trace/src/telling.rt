@@ -9,7 +9,8 @@ use crate::rows_json::json_of;
 use crate::traced::Traced;
 use crate::tracing::trace_on;
 use crate::words::words_of;
-use kt_core::{Scene, Step, World};
+use kt_core::World;
+use kt_scenario::{Scene, Step};
 use kt_scene::{
     Observer, ReplayFault, Scenario, SceneFault, Sink, Source, WorkKind, read_scene, read_text,
     write_text,

@@ -8,7 +8,9 @@ ghost use Rattle.kt_trace.specs.auxiliary.Entries.{is_want};
 
 use crate::glimpse::Glimpse;
 use crate::traced::{Refused, Traced};
-use kt_core::{Scene, Step, StepError, World};
+use kt_core::World;
+use kt_model::StepError;
+use kt_scenario::{Scene, Step};
 use kt_store::MemStore;
 use std::alloc::{AllocError, Global};
 
