@@ -3,3 +3,5 @@ pub mod Sending
 pub mod Refused
 pub mod Lines
 pub mod Chains
+pub mod Stepped
+pub mod Tellings

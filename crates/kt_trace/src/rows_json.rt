@@ -3,8 +3,9 @@
 ghost use Rattle.std.specs.Prelude.{◌≡◌, ◌++◌, ◌∷◌, [], IfOk, OnOk, codes, map};
 ghost use Rattle.std.specs.Option.{option_copied};
 ghost use Rattle.json.specs.Json.{boolean};
+ghost use Rattle.json.specs.Print.{print};
 ghost use Rattle.json.specs.Tree.{json_tokens};
-ghost use Rattle.kt_show.specs.ShownJson.{IsTextOf, array_of, count, json_or_null, name_json};
+ghost use Rattle.kt_show.specs.ShownJson.{array_of, count, json_or_null, name_json};
 ghost use Rattle.kt_trace.specs.Chosen.{chosen_text, told};
 ghost use Rattle.kt_trace.specs.Shape.{entry_json, entry_json_line, event_json, mode_json, refused_json, row_json};
 ghost use Rattle.kt_trace.specs.Shape.{ruling_json, saved_json, saving_json, trace_json, with_node};
@@ -66,7 +67,7 @@ fn add_chosen(
 
 /// The JSON text of the entry.
 fn line_of(alloc: Global, entry: &Traced) -> Result<Vec<u8>, AllocError>
-    ensures { IfOk result (λ text. IsTextOf text.items (entry_json entry.now)) }
+    ensures { IfOk result (λ text. text.items ≡ print (json_tokens (entry_json entry.now))) }
 {
     let mut out = Draft::new(alloc);
     match entry {

@@ -75,8 +75,10 @@ fn told<O: Observer>(
     match read_scene(alloc, text, WorkKind::Steps) {
         Ok(scenario) => {
             let Scenario { scene, work } = scenario;
-            let told = tell(alloc, text, scene, work.steps(), form, choice, observer);
-            told.map_err(|_| ReplayFault::Memory)
+            match tell(alloc, text, scene, work.steps(), form, choice, observer) {
+                Ok(told) => Ok(told),
+                Err(AllocError) => Err(ReplayFault::Memory),
+            }
         }
         Err(fault) => {
             observer.misread(alloc, text, WorkKind::Steps, fault);
