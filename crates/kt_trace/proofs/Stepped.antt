@@ -8,7 +8,6 @@ use Rattle.kt_model.specs.State.{State}
 use Rattle.kt_model.specs.StepPlan.{step_plan}
 use Rattle.kt_core.specs.Stepping.{Refuses}
 use Rattle.kt_trace.specs.declared.glimpse.Glimpse.{Glimpse}
-use Rattle.kt_trace.specs.declared.traced.Traced.{Traced}
 use Rattle.kt_trace.specs.declared.traced.Traced.TheVariants as entries
 use Rattle.kt_trace.specs.declared.traced.TracedStep.{TracedStep}
 use Rattle.kt_trace.specs.Rows.{entry_of}

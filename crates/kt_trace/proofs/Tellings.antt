@@ -1,5 +1,5 @@
 -- The trace of what a text spells.
-use Rattle.std.proofs.Common.{◌≡◌, ℕ, List, Result, refl, sym, ap, subst, ◌∙◌}
+use Rattle.std.proofs.Common.{◌≡◌, ℕ, List, Result, ap, ◌∙◌}
 use Rattle.kt_scenario.specs.declared.step.Step.{Step}
 use Rattle.kt_scenario.specs.Scene.{SceneModel}
 use Rattle.kt_text.specs.declared.scenario.WorkKind.TheVariants as kinds
@@ -14,7 +14,7 @@ use Rattle.kt_trace.specs.declared.telling.Form.{Form}
 use Rattle.kt_trace.specs.declared.traced.Traced.{Traced}
 use Rattle.kt_trace.specs.Rows.{trace_from}
 use Rattle.kt_trace.specs.StepLines.{step_lines}
-use Rattle.kt_trace.specs.Told.{IsTold, end_by, end_of, form_text, told_text, trace_of}
+use Rattle.kt_trace.specs.Told.{IsTold, end_of, told_text, trace_of}
 
 -- a text that spells a scenario with these steps
 steps-spelled : (text : List ℕ) (scene : SceneModel) (work : Work) → kind_of work ≡ kinds.Steps → IsScenario text (record { scene = scene; work = work })

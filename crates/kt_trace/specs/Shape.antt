@@ -1,7 +1,7 @@
 -- What a line of a trace says as JSON: one object for each entry.
 use Rattle.std.specs.Prelude.{ℕ, Bool, List, [], ◌∷◌, ◌++◌, codes, map, Option, None, Some}
 use Rattle.std.specs.List.{flat_map}
-use Rattle.json.specs.Json.{Json, boolean, null, string}
+use Rattle.json.specs.Json.{Json, boolean, string}
 use Rattle.json.specs.Print.{print}
 use Rattle.json.specs.Tree.{json_tokens}
 use Rattle.kt_tuple.specs.declared.node.NodeId.{NodeId}

@@ -30,5 +30,5 @@ pub use lines::step_lines;
 pub use rows_json::json_of;
 pub use telling::{Form, write_trace};
 pub use traced::{Refused, Ruling, Saving, Traced, TracedStep};
-pub use tracing::trace;
+pub use tracing::{trace, trace_step};
 pub use words::words_of;

@@ -71,8 +71,10 @@ fn line_of(lines: &[u64], place: usize) -> u64
     }
 }
 
-/// Makes the step and gives its entry.
-fn trace_step(
+/// Makes the step and gives its entry. So whoever wants to see the world between two steps makes them one by one. The
+/// step has this number, and stands on this line of the text, both counted from 1. `AllocError` where memory is wanting:
+/// the step may have been made then.
+pub fn trace_step(
     alloc: Global,
     world: &mut World<MemStore>,
     number: u64,
