@@ -5,8 +5,8 @@ ghost use Rattle.json.specs.Tree.{json_tokens};
 ghost use Rattle.json.specs.Token.{begin_object, key, string};
 ghost use Rattle.std.specs.Option.{option_copied};
 ghost use Rattle.kt_trace.specs.Shape.{act_json, answer_in, app_json, ask_json, event_json, label_json, message_json};
-ghost use Rattle.kt_trace.specs.Shape.{mode_json, of_node, of_pair, of_service, request_members, step_json, talk_members};
-ghost use Rattle.kt_trace.specs.Shape.{verdict_json, vote_json, what_word};
+ghost use Rattle.kt_trace.specs.Shape.{mode_json, of_node, of_pair, of_service, request_members, step_json};
+ghost use Rattle.kt_trace.specs.Shape.{talk_members, verdict_json, vote_json, what_word};
 ghost use Rattle.kt_trace.specs.auxiliary.Members.{in_object};
 
 use kt_history::{Act, Note, What};

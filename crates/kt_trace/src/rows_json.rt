@@ -28,12 +28,12 @@ use std::alloc::{AllocError, Global};
 ///   stands behind the word in the step's line, in that order.
 /// - `node`, the node that moves; `was` and `is`, its mode before and behind the step: `"up"`, `"held"`, `"rolling"` or
 ///   `"down"`.
-/// - `heard`, null or what came to the node: `from` whom, and the `message`. `keeps`, whether the node put it behind what
-///   it keeps. `sent`, an array of what it sent: `to` whom, and the `message`.
+/// - `heard`, null or what came to the node: `from` whom, and the `message`. `keeps`, whether the node put it behind
+///   what it keeps. `sent`, an array of what it sent: `to` whom, and the `message`.
 /// - `event`, null or the event that the step made, and `events`, how many there are behind the step.
-/// - `begun`, null or the number of the check or rollback that it began. `checkpoint`, null or what it made of the node's
-///   tentative checkpoint: the word `"taken"`, `"permanent"` or `"given_up"`, and the `instance`. `verdict`, null or what
-///   it wrote on the board: the `instance`, and whether it is `yes`.
+/// - `begun`, null or the number of the check or rollback that it began. `checkpoint`, null or what it made of the
+///   node's tentative checkpoint: the `word` `"taken"`, `"permanent"` or `"given_up"`, and the `instance`. `verdict`,
+///   null or what it wrote on the board: the `instance`, and whether it is `yes`.
 /// - `undone`, how many more services there are behind it that do not survive.
 ///
 /// A step that was refused has `number`, `line`, `step` and `refused`, the name of the refusal.
@@ -163,7 +163,8 @@ fn push_sent(out: &mut Draft, sent: &[(NodeId, Message)]) -> Result<(), AllocErr
 /// The event, and how many there are.
 fn push_events(out: &mut Draft, row: &TracedStep) -> Result<(), AllocError>
     ensures { OnOk result (out.new ≡ out.old
-        ++ in_object ((codes "event", json_or_null event_json row.now.note) ∷ (codes "events", count row.now.notes) ∷ [])) }
+        ++ in_object ((codes "event", json_or_null event_json row.now.note)
+        ∷ (codes "events", count row.now.notes) ∷ [])) }
 {
     out.key("event")?;
     push_event_if_any(out, row.note.as_ref())?;

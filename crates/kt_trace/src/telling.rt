@@ -35,7 +35,7 @@ struct Told {
     end: Result<(), ReplayFault>,
 }
 
-/// Reads a scenario of steps, makes them over a store in memory, and writes their trace in this form, of what is chosen.
+/// Reads a scenario of steps, makes them over a store in memory, and writes what is chosen of their trace in this form.
 /// A step that is refused ends it: the trace with its refusal is written, and the answer is that of a replay. It reads
 /// all, then makes all steps, then writes; so any other fault but `Write` leaves nothing written. The observer is told
 /// of a text that is no such scenario, of a step that is refused, and of the end.

@@ -72,8 +72,8 @@ fn line_of(lines: &[u64], place: usize) -> u64
 }
 
 /// Makes the step and gives its entry. So whoever wants to see the world between two steps makes them one by one. The
-/// step has this number, and stands on this line of the text, both counted from 1. `AllocError` where memory is wanting:
-/// the step may have been made then.
+/// step has this number, and stands on this line of the text, both counted from 1. Where memory is wanting, the answer
+/// is `AllocError`, and the step may have been made.
 pub fn trace_step(
     alloc: Global,
     world: &mut World<MemStore>,
