@@ -2,3 +2,6 @@ pub mod Tracing
 pub mod Sending
 pub mod Refused
 pub mod Lines
+pub mod Chains
+pub mod Stepped
+pub mod Tellings

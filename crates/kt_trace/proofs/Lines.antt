@@ -1,6 +1,6 @@
 -- Texts that are put one behind the other.
 use Rattle.std.proofs.Common.{◌≡◌, ℕ, Bool, true, false, cond, List, [], ◌∷◌, ◌++◌, refl, ap, ◌∙◌, append_assoc}
-use Rattle.std.specs.Prelude.{filter, if◌then◌else◌}
+use Rattle.std.specs.Prelude.{if◌then◌else◌}
 use Rattle.std.specs.List.{flat_map}
 use Rattle.kt_trace.specs.declared.choice.Choice.{Choice}
 use Rattle.kt_trace.specs.declared.traced.Traced.{Traced}

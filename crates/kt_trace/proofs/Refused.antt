@@ -1,5 +1,5 @@
 -- A step that was refused, and what its refusal says of its result.
-use Rattle.std.proofs.Common.{◌≡◌, false, Result, Err, refl, sym, ap, ◌∙◌}
+use Rattle.std.proofs.Common.{◌≡◌, false, Err, sym, ap}
 use Rattle.std.proofs.lemmas.Bool.{false≢true}
 use Rattle.kt_scenario.specs.declared.step.Step.{Step}
 use Rattle.kt_model.specs.declared.error.StepError.{StepError}

@@ -10,7 +10,6 @@ use Rattle.kt_state.specs.declared.message.Message.{Message}
 use Rattle.kt_scenario.specs.declared.step.Step.{Step}
 use Rattle.kt_scenario.specs.Step.{owner}
 use Rattle.kt_model.specs.State.{State}
-use Rattle.kt_trace.specs.declared.traced.TracedStep.{TracedStep}
 use Rattle.kt_trace.specs.Rows.{from_sender, row_of_step, sent}
 use Rattle.kt_trace.specs.auxiliary.Glimpses.{glimpse_of, new_on, row_from, way_to}
 

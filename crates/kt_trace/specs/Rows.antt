@@ -1,17 +1,15 @@
 -- What is told of a step: a row of what it is between the state before it and the state behind it. And the trace: the
 -- rows of the steps that are made, in order, up to the first that is refused.
-use Rattle.std.specs.Prelude.{ℕ, zero, suc, ◌+◌, ◌-◌, nat_lt, ◌==◌, Bool, true, false, ◌&&◌, List, [], ◌∷◌, map, drop}
+use Rattle.std.specs.Prelude.{ℕ, ◌+◌, ◌-◌, nat_lt, true, false, List, [], ◌∷◌, map, drop}
 use Rattle.std.specs.Prelude.{length, slice_get, slice_index_or, Option, None, Some, Result, Ok, Err, unwrap_or}
-use Rattle.std.specs.List.{find, flat_map}
+use Rattle.std.specs.List.{flat_map}
 use Rattle.std.specs.Option.{option_map}
 use Rattle.kt_tuple.specs.declared.node.NodeId.{NodeId}
-use Rattle.kt_tuple.specs.Node.{all_nodes, node_eq}
+use Rattle.kt_tuple.specs.Node.{all_nodes}
 use Rattle.kt_history.specs.declared.note.Note.{Note}
 use Rattle.kt_history.specs.Survival.{lost_count}
 use Rattle.kt_scenario.specs.declared.step.Step.{Step}
-use Rattle.kt_scenario.specs.declared.step.Step.TheVariants.{Issue, Repeat, Deliver, Take, Serve, Check, Decide}
-use Rattle.kt_scenario.specs.declared.step.Step.TheVariants.{Abandon}
-use Rattle.kt_scenario.specs.declared.step.Step.TheVariants.{Learn, Fail, Restart}
+use Rattle.kt_scenario.specs.declared.step.Step.TheVariants.{Abandon, Decide, Deliver, Take}
 use Rattle.kt_scenario.specs.Step.{owner}
 use Rattle.kt_store.specs.declared.rows.InstanceRow.{InstanceRow}
 use Rattle.kt_store.specs.declared.rows.Tentative.{Tentative}
@@ -32,7 +30,6 @@ use Rattle.kt_trace.specs.declared.traced.Saving.{Saving}
 use Rattle.kt_trace.specs.declared.traced.Saving.TheVariants as savings
 use Rattle.kt_trace.specs.declared.traced.Ruling.{Ruling}
 use Rattle.kt_trace.specs.declared.traced.TracedStep.{TracedStep}
-use Rattle.kt_trace.specs.declared.traced.Refused.{Refused}
 use Rattle.kt_trace.specs.declared.traced.Traced.{Traced}
 use Rattle.kt_trace.specs.declared.traced.Traced.TheVariants as entries
 

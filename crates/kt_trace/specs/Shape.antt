@@ -1,13 +1,14 @@
 -- What a line of a trace says as JSON: one object for each entry.
 use Rattle.std.specs.Prelude.{ℕ, Bool, List, [], ◌∷◌, ◌++◌, codes, map, Option, None, Some}
 use Rattle.std.specs.List.{flat_map}
-use Rattle.json.specs.Json.{Json, boolean, null, string}
+use Rattle.json.specs.Json.{Json, boolean, string}
 use Rattle.json.specs.Print.{print}
 use Rattle.json.specs.Tree.{json_tokens}
 use Rattle.kt_tuple.specs.declared.node.NodeId.{NodeId}
 use Rattle.kt_tuple.specs.declared.node.NodeId.TheVariants as ids
 use Rattle.kt_tuple.specs.declared.op.Answer.{Answer}
 use Rattle.kt_link.specs.declared.label.Label.{Label}
+use Rattle.kt_shard.specs.declared.request.Request.{Request}
 use Rattle.kt_vote.specs.declared.vote.Vote.{Vote}
 use Rattle.kt_history.specs.declared.note.Act.{Act}
 use Rattle.kt_history.specs.declared.note.Note.{Note}
@@ -81,19 +82,19 @@ mode_json modes.Down = string (codes "down")
 abbrev pub label_json : Label → Json
 label_json l = object_of ((codes "incarnation", count l.incarnation) ∷ (codes "count", count l.count) ∷ [])
 
--- the label, and the number of the event that sent it
-abbrev pub sending_members : AppMessage → List Member
-sending_members m = (codes "label", label_json m.label) ∷ (codes "by", count m.by) ∷ []
+-- what a request asks for, under which number
+abbrev pub request_members : Request → List Member
+request_members r = (codes "request", count r.number) ∷ (codes "operation", op_json r.op) ∷ []
 
-abbrev pub talk_json : AppMessage → Talk → Json
-talk_json m (talks.Request r) = with_word (codes "request")
-    ((codes "request", count r.number) ∷ (codes "operation", op_json r.op) ∷ sending_members m)
-talk_json m (talks.Reply r answer) = with_word (codes "reply")
-    ((codes "request", count r.number) ∷ (codes "operation", op_json r.op) ∷ (codes "answer", answer_json answer)
-    ∷ sending_members m)
+-- the word, and what is asked and answered
+abbrev pub talk_members : Talk → List Member
+talk_members (talks.Request r) = (codes "word", string (codes "request")) ∷ request_members r
+talk_members (talks.Reply r answer) =
+    (codes "word", string (codes "reply")) ∷ request_members r ++ (codes "answer", answer_json answer) ∷ []
 
+-- with the label, and the number of the event that sent it
 abbrev pub app_json : AppMessage → Json
-app_json m = talk_json m m.talk
+app_json m = object_of (talk_members m.talk ++ (codes "label", label_json m.label) ∷ (codes "by", count m.by) ∷ [])
 
 abbrev pub ask_json : List ℕ → Ask → Json
 ask_json word ask = with_word word

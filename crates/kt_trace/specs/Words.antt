@@ -184,15 +184,30 @@ abbrev pub ruling_text : Option Ruling → List ℕ
 ruling_text None = []
 ruling_text (Some ruling) = codes ", instance " ++ decimal ruling.instance ++ gets_text ruling.yes
 
+abbrev pub from_down : Mode → List ℕ
+from_down modes.Up = codes ", is up"
+from_down modes.Held = codes ", is held"
+from_down modes.Rolling = codes ", rolls back"
+from_down modes.Down = []
+
+abbrev pub from_up : Mode → List ℕ
+from_up modes.Up = []
+from_up is = from_down is
+
+abbrev pub from_held : Mode → List ℕ
+from_held modes.Held = []
+from_held is = from_down is
+
+abbrev pub from_rolling : Mode → List ℕ
+from_rolling modes.Rolling = []
+from_rolling is = from_down is
+
 -- what the node is now, where it was not that before; of one that fails the step has said it
 abbrev pub turn_text : Mode → Mode → List ℕ
-turn_text modes.Up modes.Up = []
-turn_text modes.Held modes.Held = []
-turn_text modes.Rolling modes.Rolling = []
-turn_text was modes.Down = []
-turn_text was modes.Up = codes ", is up"
-turn_text was modes.Held = codes ", is held"
-turn_text was modes.Rolling = codes ", rolls back"
+turn_text modes.Up is = from_up is
+turn_text modes.Held is = from_held is
+turn_text modes.Rolling is = from_rolling is
+turn_text modes.Down is = from_down is
 
 abbrev pub votes_verb : Bool → Verb
 votes_verb true = (codes ", votes yes to ", [])

@@ -3,7 +3,7 @@
 ghost use Rattle.std.specs.Prelude.{◌≡◌, IfOk};
 
 use kt_history::{Act, Note};
-use kt_node::Message;
+use kt_state::Message;
 use std::alloc::{AllocError, Global};
 
 /// An equal message with memory of its own.

@@ -3,14 +3,18 @@
 ghost use Rattle.std.specs.Prelude.{◌≡◌, ◌++◌, ◌∷◌, [], OnOk, codes};
 ghost use Rattle.json.specs.Tree.{json_tokens};
 ghost use Rattle.json.specs.Token.{begin_object, key, string};
-ghost use Rattle.kt_trace.specs.Shape.{act_json, app_json, ask_json, event_json, label_json, message_json, mode_json};
-ghost use Rattle.kt_trace.specs.Shape.{step_json, vote_json, verdict_json, what_word};
+ghost use Rattle.std.specs.Option.{option_copied};
+ghost use Rattle.kt_trace.specs.Shape.{act_json, answer_in, app_json, ask_json, event_json, label_json, message_json};
+ghost use Rattle.kt_trace.specs.Shape.{mode_json, of_node, of_pair, of_service, request_members, step_json};
+ghost use Rattle.kt_trace.specs.Shape.{talk_members, verdict_json, vote_json, what_word};
+ghost use Rattle.kt_trace.specs.auxiliary.Members.{in_object};
 
-use kt_core::Step;
 use kt_history::{Act, Note, What};
 use kt_link::Label;
-use kt_node::{AppMessage, Ask, Message, Mode, Talk};
+use kt_scenario::Step;
+use kt_shard::Request;
 use kt_show::{Draft, push_member, push_optional};
+use kt_state::{AppMessage, Ask, Message, Mode, Talk};
 use kt_tuple::{Answer, NodeId};
 use kt_vote::Vote;
 use std::alloc::AllocError;
@@ -48,17 +52,23 @@ pub(crate) fn push_step_json(out: &mut Draft, step: Step) -> Result<(), AllocErr
     }
 }
 
-fn push_of_node(out: &mut Draft, word: &str, node: NodeId) -> Result<(), AllocError> {
+fn push_of_node(out: &mut Draft, word: &str, node: NodeId) -> Result<(), AllocError>
+    ensures { OnOk result (out.new ≡ out.old ++ json_tokens (of_node word.now node)) }
+{
     begin_worded(out, word)?;
     push_member(out, "node", &node)?;
-    out.end_object()
+    out.end_object()?;
+    Ok(())
 }
 
-fn push_of_pair(out: &mut Draft, from: NodeId, to: NodeId) -> Result<(), AllocError> {
+fn push_of_pair(out: &mut Draft, from: NodeId, to: NodeId) -> Result<(), AllocError>
+    ensures { OnOk result (out.new ≡ out.old ++ json_tokens (of_pair from to)) }
+{
     begin_worded(out, "deliver")?;
     push_member(out, "from", &from)?;
     push_member(out, "to", &to)?;
-    out.end_object()
+    out.end_object()?;
+    Ok(())
 }
 
 fn push_of_service(
@@ -66,12 +76,15 @@ fn push_of_service(
     shard: NodeId,
     worker: NodeId,
     place: u64,
-) -> Result<(), AllocError> {
+) -> Result<(), AllocError>
+    ensures { OnOk result (out.new ≡ out.old ++ json_tokens (of_service shard worker place)) }
+{
     begin_worded(out, "serve")?;
     push_member(out, "shard", &shard)?;
     push_member(out, "worker", &worker)?;
     push_member(out, "place", &place)?;
-    out.end_object()
+    out.end_object()?;
+    Ok(())
 }
 
 /// The word for a mode.
@@ -103,22 +116,38 @@ pub(crate) fn push_message(out: &mut Draft, message: &Message) -> Result<(), All
 fn push_app(out: &mut Draft, app: &AppMessage) -> Result<(), AllocError>
     ensures { OnOk result (out.new ≡ out.old ++ json_tokens (app_json app.now)) }
 {
-    match &app.talk {
+    push_talk(out, &app.talk)?;
+    push_label(out, app.label)?;
+    push_member(out, "by", &app.by)?;
+    out.end_object()?;
+    Ok(())
+}
+
+/// The begin of a request or a reply.
+fn push_talk(out: &mut Draft, talk: &Talk) -> Result<(), AllocError>
+    ensures { OnOk result (out.new ≡ out.old ++ begin_object ∷ in_object (talk_members talk.now)) }
+{
+    match talk {
         Talk::Request(request) => {
             begin_worded(out, "request")?;
-            push_member(out, "request", &request.number)?;
-            push_member(out, "operation", &request.op)?;
+            push_asked(out, request)
         }
         Talk::Reply { request, answer } => {
             begin_worded(out, "reply")?;
-            push_member(out, "request", &request.number)?;
-            push_member(out, "operation", &request.op)?;
+            push_asked(out, request)?;
             push_member(out, "answer", answer)?;
+            Ok(())
         }
     }
-    push_label(out, app.label)?;
-    push_member(out, "by", &app.by)?;
-    out.end_object()
+}
+
+/// What a request asks for.
+fn push_asked(out: &mut Draft, request: &Request) -> Result<(), AllocError>
+    ensures { OnOk result (out.new ≡ out.old ++ in_object (request_members request.now)) }
+{
+    push_member(out, "request", &request.number)?;
+    push_member(out, "operation", &request.op)?;
+    Ok(())
 }
 
 /// The member with a label.
@@ -129,7 +158,8 @@ fn push_label(out: &mut Draft, label: Label) -> Result<(), AllocError>
     out.begin_object()?;
     push_member(out, "incarnation", &label.incarnation)?;
     push_member(out, "count", &label.count)?;
-    out.end_object()
+    out.end_object()?;
+    Ok(())
 }
 
 /// What asks for a checkpoint or for a rollback.
@@ -140,7 +170,8 @@ fn push_ask(out: &mut Draft, word: &str, ask: Ask) -> Result<(), AllocError>
     push_member(out, "instance", &ask.instance)?;
     push_label(out, ask.label)?;
     push_member(out, "incarnation", &ask.incarnation)?;
-    out.end_object()
+    out.end_object()?;
+    Ok(())
 }
 
 fn push_vote(out: &mut Draft, vote: Vote) -> Result<(), AllocError>
@@ -150,7 +181,8 @@ fn push_vote(out: &mut Draft, vote: Vote) -> Result<(), AllocError>
     push_member(out, "instance", &vote.instance)?;
     push_member(out, "incarnation", &vote.incarnation)?;
     push_member(out, "yes", &vote.yes)?;
-    out.end_object()
+    out.end_object()?;
+    Ok(())
 }
 
 fn push_verdict(out: &mut Draft, instance: u64, yes: bool) -> Result<(), AllocError>
@@ -159,7 +191,8 @@ fn push_verdict(out: &mut Draft, instance: u64, yes: bool) -> Result<(), AllocEr
     begin_worded(out, "verdict")?;
     push_member(out, "instance", &instance)?;
     push_member(out, "yes", &yes)?;
-    out.end_object()
+    out.end_object()?;
+    Ok(())
 }
 
 /// An event: an act about a request, or acts that were given up.
@@ -171,7 +204,8 @@ pub(crate) fn push_event(out: &mut Draft, note: &Note) -> Result<(), AllocError>
         Note::Cut { keep, .. } => {
             begin_worded(out, "cut")?;
             push_member(out, "keep", keep)?;
-            out.end_object()
+            out.end_object()?;
+            Ok(())
         }
     }
 }
@@ -185,7 +219,8 @@ fn push_act(out: &mut Draft, act: &Act) -> Result<(), AllocError>
     push_member(out, "operation", &act.op)?;
     push_optional(out, "answer", answer_in(&act.what))?;
     push_member(out, "by", &act.by)?;
-    out.end_object()
+    out.end_object()?;
+    Ok(())
 }
 
 /// The word for what a node did about a request.
@@ -204,7 +239,9 @@ fn what_word(what: &What) -> &'static str
 }
 
 /// The answer that was given or heard.
-fn answer_in(what: &What) -> Option<&Answer> {
+fn answer_in(what: &What) -> Option<&Answer>
+    ensures { option_copied result ≡ answer_in what.now }
+{
     match what {
         What::Issue | What::Repeat | What::Heard | What::Ignored(None) => None,
         What::Served(answer)

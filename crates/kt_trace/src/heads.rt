@@ -8,7 +8,7 @@ ghost use Rattle.kt_tuple.specs.Spelling.{node_text};
 use crate::names::{Verb, act_verb, arrival_verb, control_verb, deed};
 use crate::traced::TracedStep;
 use kt_history::{Act, Note, What};
-use kt_node::{Message, Mode, Talk};
+use kt_state::{Message, Mode, Talk};
 use kt_tuple::NodeId;
 use kt_tuple::writing::push_number;
 use std::alloc::AllocError;

@@ -2,10 +2,10 @@
 //! words or of JSON.
 //!
 //! - Contract: each step that is made stands once, in order, as what it is between the state before it and the state
-//!   behind it. The first that is refused ends the trace (`trace`, clause `entries`). A line of words or of JSON is said
-//!   of each entry that is chosen (`words_of` and `json_of`, clause `text`; `write_trace`, clause `written`).
+//!   behind it. The first that is refused ends the trace (`trace`, clause `entries`). Each entry that is chosen has a
+//!   line of words or of JSON (`words_of` and `json_of`, clause `text`; `write_trace`, clause `ends`).
 //! - Stands on: kt_tuple, kt_history, kt_scenario, kt_text, kt_store, kt_show, kt_vote, kt_shard, kt_link, kt_state,
-//!   kt_node, kt_model, kt_core, kt_scene
+//!   kt_model, kt_core, kt_scene; of the kit: json
 //! - Begin in: `traced.rt` for what is told of a step and `tracing.rt` for how it comes about, then `words.rt`. What a
 //!   row has is defined in specs/Rows.antt, what each line says in specs/Words.antt and specs/Shape.antt.
 #![tactic(auto)]
@@ -30,5 +30,5 @@ pub use lines::step_lines;
 pub use rows_json::json_of;
 pub use telling::{Form, write_trace};
 pub use traced::{Refused, Ruling, Saving, Traced, TracedStep};
-pub use tracing::trace;
+pub use tracing::{trace, trace_step};
 pub use words::words_of;

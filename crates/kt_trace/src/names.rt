@@ -3,9 +3,10 @@
 ghost use Rattle.std.specs.Prelude.{◌≡◌};
 ghost use Rattle.kt_trace.specs.Words.{act_verb, arrival_verb, control_verb, deed, refusal_name};
 
-use kt_core::{Step, StepError};
 use kt_history::What;
-use kt_node::{Message, Mode};
+use kt_model::StepError;
+use kt_scenario::Step;
+use kt_state::{Message, Mode};
 
 /// Words before the name of a node, and words behind it.
 #[derive(Clone, Copy, Debug)]

@@ -3,14 +3,14 @@
 ghost use Rattle.std.specs.Prelude.{◌≡◌, ◌++◌, OnOk};
 ghost use Rattle.std.specs.List.{flat_map};
 ghost use Rattle.kt_tuple.specs.Spelling.{node_text};
-ghost use Rattle.kt_trace.specs.Words.{begun_text, ruling_text, saving_text, sent_text, services_text};
+ghost use Rattle.kt_trace.specs.Words.{begun_text, from_down, ruling_text, saving_text, sent_text, services_text};
 ghost use Rattle.kt_trace.specs.Words.{tail_text, turn_text, undone_text};
 ghost use Rattle.std.specs.Option.{option_copied};
 
 use crate::heads::push_instance;
 use crate::traced::{Ruling, Saving, TracedStep};
 use kt_history::Note;
-use kt_node::{Message, Mode};
+use kt_state::{Message, Mode};
 use kt_tuple::NodeId;
 use kt_tuple::writing::push_number;
 use std::alloc::AllocError;
@@ -72,13 +72,19 @@ fn push_turn(out: &mut Vec<u8>, was: Mode, is: Mode) -> Result<(), AllocError>
     ensures { OnOk result (out.new.items ≡ out.old.items ++ turn_text was is) }
 {
     match (was, is) {
-        (Mode::Up, Mode::Up)
-        | (Mode::Held, Mode::Held)
-        | (Mode::Rolling, Mode::Rolling)
-        | (_, Mode::Down) => Ok(()),
-        (_, Mode::Up) => out.extend_from_slice(b", is up"),
-        (_, Mode::Held) => out.extend_from_slice(b", is held"),
-        (_, Mode::Rolling) => out.extend_from_slice(b", rolls back"),
+        (Mode::Up, Mode::Up) | (Mode::Held, Mode::Held) | (Mode::Rolling, Mode::Rolling) => Ok(()),
+        _ => push_mode(out, is),
+    }
+}
+
+fn push_mode(out: &mut Vec<u8>, is: Mode) -> Result<(), AllocError>
+    ensures { OnOk result (out.new.items ≡ out.old.items ++ from_down is) }
+{
+    match is {
+        Mode::Up => out.extend_from_slice(b", is up"),
+        Mode::Held => out.extend_from_slice(b", is held"),
+        Mode::Rolling => out.extend_from_slice(b", rolls back"),
+        Mode::Down => Ok(()),
     }
 }
 

@@ -9,7 +9,8 @@ use crate::rows_json::json_of;
 use crate::traced::Traced;
 use crate::tracing::trace_on;
 use crate::words::words_of;
-use kt_core::{Scene, Step, World};
+use kt_core::World;
+use kt_scenario::{Scene, Step};
 use kt_scene::{
     Observer, ReplayFault, Scenario, SceneFault, Sink, Source, WorkKind, read_scene, read_text,
     write_text,
@@ -34,7 +35,7 @@ struct Told {
     end: Result<(), ReplayFault>,
 }
 
-/// Reads a scenario of steps, makes them over a store in memory, and writes their trace in this form, of what is chosen.
+/// Reads a scenario of steps, makes them over a store in memory, and writes what is chosen of their trace in this form.
 /// A step that is refused ends it: the trace with its refusal is written, and the answer is that of a replay. It reads
 /// all, then makes all steps, then writes; so any other fault but `Write` leaves nothing written. The observer is told
 /// of a text that is no such scenario, of a step that is refused, and of the end.
@@ -74,8 +75,10 @@ fn told<O: Observer>(
     match read_scene(alloc, text, WorkKind::Steps) {
         Ok(scenario) => {
             let Scenario { scene, work } = scenario;
-            let told = tell(alloc, text, scene, work.steps(), form, choice, observer);
-            told.map_err(|_| ReplayFault::Memory)
+            match tell(alloc, text, scene, work.steps(), form, choice, observer) {
+                Ok(told) => Ok(told),
+                Err(AllocError) => Err(ReplayFault::Memory),
+            }
         }
         Err(fault) => {
             observer.misread(alloc, text, WorkKind::Steps, fault);

@@ -1,8 +1,9 @@
 //! What is told of a step: a row of plain data.
 
-use kt_core::{Step, StepError};
 use kt_history::Note;
-use kt_node::{Message, Mode, Outbox};
+use kt_model::StepError;
+use kt_scenario::Step;
+use kt_state::{Message, Mode, Outbox};
 use kt_tuple::NodeId;
 
 /// What a step made of its node's tentative checkpoint, with the number of the check.

@@ -8,7 +8,9 @@ ghost use Rattle.kt_trace.specs.auxiliary.Entries.{is_want};
 
 use crate::glimpse::Glimpse;
 use crate::traced::{Refused, Traced};
-use kt_core::{Scene, Step, StepError, World};
+use kt_core::World;
+use kt_model::StepError;
+use kt_scenario::{Scene, Step};
 use kt_store::MemStore;
 use std::alloc::{AllocError, Global};
 
@@ -69,8 +71,10 @@ fn line_of(lines: &[u64], place: usize) -> u64
     }
 }
 
-/// Makes the step and gives its entry.
-fn trace_step(
+/// Makes the step and gives its entry. So whoever wants to see the world between two steps makes them one by one. The
+/// step has this number, and stands on this line of the text, both counted from 1. Where memory is wanting, the answer
+/// is `AllocError`, and the step may have been made.
+pub fn trace_step(
     alloc: Global,
     world: &mut World<MemStore>,
     number: u64,

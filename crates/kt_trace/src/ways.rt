@@ -6,7 +6,7 @@ ghost use Rattle.kt_trace.specs.auxiliary.Glimpses.{new_on, way_to, ways_from};
 
 use crate::copying::copy_message;
 use kt_core::World;
-use kt_node::Outbox;
+use kt_state::Outbox;
 use kt_store::MemStore;
 use kt_tuple::{ALL_NODES, NodeId};
 use std::alloc::{AllocError, Global};

@@ -11,8 +11,8 @@ use Rattle.kt_model.specs.State.{State, link}
 use Rattle.kt_core.specs.Lent.{kept}
 use Rattle.kt_trace.specs.declared.glimpse.Glimpse.{Glimpse}
 use Rattle.kt_trace.specs.declared.traced.TracedStep.{TracedStep}
-use Rattle.kt_trace.specs.Rows.{begun_since, from_sender, heard, mode_at, note_since, open_instance, ruling_by, saving_by}
-use Rattle.kt_trace.specs.Rows.{tentative_instance}
+use Rattle.kt_trace.specs.Rows.{begun_since, from_sender, heard, mode_at, note_since, open_instance, ruling_by}
+use Rattle.kt_trace.specs.Rows.{saving_by, tentative_instance}
 
 -- a node, and how many messages are on their way to it from p
 abbrev pub way_to : State → NodeId → NodeId → NodeId × ℕ
