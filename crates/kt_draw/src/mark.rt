@@ -95,13 +95,8 @@ fn act_mark(what: &What, survives: bool) -> Mark
     ensures survives { result ≡ marks.Survives → IsTrue survives }
 {
     match what {
-        What::Served(_) => {
-            if survives {
-                Mark::Survives
-            } else {
-                Mark::Lost
-            }
-        }
+        What::Served(_) if survives => Mark::Survives,
+        What::Served(_) => Mark::Lost,
         What::Issue | What::Repeat | What::Again(_) => Mark::Asks,
         What::Heard => Mark::Waits,
         What::Accepted(_) => Mark::Hears,

@@ -22,8 +22,9 @@ pub const BLOCK: u64 = 40;
 pub const SHORT: u64 = 10;
 /// The width that the columns share.
 pub const WIDE: u64 = 960;
-/// The least and the greatest width of a column.
+/// The least width of a column.
 pub const NARROWEST: u64 = 40;
+/// The greatest width of a column.
 pub const WIDEST: u64 = 96;
 
 /// How large a picture is.

@@ -14,7 +14,7 @@ use kt_tuple::writing::push_number;
 use std::alloc::AllocError;
 
 /// Puts who does what to whom behind the text.
-pub(crate) fn push_head(out: &mut Vec<u8>, row: &TracedStep) -> Result<(), AllocError>
+pub fn push_head(out: &mut Vec<u8>, row: &TracedStep) -> Result<(), AllocError>
     ensures { OnOk result (out.new.items ≡ out.old.items ++ head_text row.now) }
 {
     row.node.write_to(out)?;
@@ -121,7 +121,7 @@ fn push_control(
 }
 
 /// The number of a check or a rollback.
-pub(crate) fn push_instance(out: &mut Vec<u8>, instance: u64) -> Result<(), AllocError>
+pub fn push_instance(out: &mut Vec<u8>, instance: u64) -> Result<(), AllocError>
     ensures { OnOk result (out.new.items ≡ out.old.items ++ instance_text instance) }
 {
     out.extend_from_slice(b" (instance ")?;

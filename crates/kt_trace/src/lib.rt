@@ -26,9 +26,11 @@ mod ways;
 mod words;
 
 pub use choice::Choice;
+pub use heads::{push_head, push_instance};
 pub use lines::step_lines;
 pub use rows_json::json_of;
+pub use tails::{push_begun, push_one, push_ruling, push_undone};
 pub use telling::{Form, write_trace};
 pub use traced::{Refused, Ruling, Saving, Traced, TracedStep};
 pub use tracing::{trace, trace_step};
-pub use words::words_of;
+pub use words::{push_refusal, words_of};

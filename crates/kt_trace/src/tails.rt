@@ -28,7 +28,7 @@ pub(crate) fn push_tail(out: &mut Vec<u8>, row: &TracedStep) -> Result<(), Alloc
 }
 
 /// The check or rollback that was begun.
-fn push_begun(out: &mut Vec<u8>, begun: Option<u64>) -> Result<(), AllocError>
+pub fn push_begun(out: &mut Vec<u8>, begun: Option<u64>) -> Result<(), AllocError>
     ensures { OnOk result (out.new.items ≡ out.old.items ++ begun_text begun) }
 {
     match begun {
@@ -52,7 +52,7 @@ fn push_saving(out: &mut Vec<u8>, saving: Option<Saving>) -> Result<(), AllocErr
 }
 
 /// The verdict that was written.
-fn push_ruling(out: &mut Vec<u8>, ruling: Option<Ruling>) -> Result<(), AllocError>
+pub fn push_ruling(out: &mut Vec<u8>, ruling: Option<Ruling>) -> Result<(), AllocError>
     ensures { OnOk result (out.new.items ≡ out.old.items ++ ruling_text ruling) }
 {
     let Some(Ruling { instance, yes }) = ruling else {
@@ -98,7 +98,8 @@ fn push_sent(out: &mut Vec<u8>, sent: &[(NodeId, Message)]) -> Result<(), AllocE
     Ok(())
 }
 
-fn push_one(out: &mut Vec<u8>, to: NodeId, message: &Message) -> Result<(), AllocError>
+/// What the node sends to another, but a request or a reply, which the first half says.
+pub fn push_one(out: &mut Vec<u8>, to: NodeId, message: &Message) -> Result<(), AllocError>
     ensures { OnOk result (out.new.items ≡ out.old.items ++ sent_text (to, message.now)) }
 {
     match message {
@@ -131,7 +132,7 @@ fn push_around(
 }
 
 /// How many services are undone, or that the one that was made is of what was undone before.
-fn push_undone(out: &mut Vec<u8>, note: Option<&Note>, undone: u64) -> Result<(), AllocError>
+pub fn push_undone(out: &mut Vec<u8>, note: Option<&Note>, undone: u64) -> Result<(), AllocError>
     ensures { OnOk result (out.new.items ≡ out.old.items ++ undone_text (option_copied note.entry) undone) }
 {
     if undone == 0 {
