@@ -3,7 +3,7 @@
 use crate::story::Story;
 use kt_core::Step;
 use kt_link::Links;
-use kt_node::{Message, Talk};
+use kt_state::{Message, Talk};
 use kt_trace::TracedStep;
 use kt_tuple::NodeId;
 use std::alloc::{AllocError, Global};

@@ -5,7 +5,7 @@ use crate::element::{Point, push_box, push_label, push_line, push_use};
 use crate::life::push_piece;
 use crate::mark::Mark;
 use crate::sheet::{MARGIN, Sheet, text_width};
-use kt_node::Mode;
+use kt_state::Mode;
 use std::alloc::AllocError;
 
 /// The height of a line of the legend.

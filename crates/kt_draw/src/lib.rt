@@ -3,7 +3,7 @@
 //! - Contract: rows and columns stand apart (laws `rows_stand_one_below_the_other`, `columns_stand_side_by_side`). Each
 //!   step has one mark, and only a service that survives is marked so (`mark_of`, clauses `mark` and `survives`). Text is
 //!   written without signs of markup (`push_escaped`, and the law `what_is_escaped_has_no_markup`).
-//! - Stands on: kt_tuple, kt_link, kt_history, kt_losses, kt_scenario, kt_store, kt_state, kt_node, kt_model, kt_core,
+//! - Stands on: kt_tuple, kt_link, kt_history, kt_losses, kt_scenario, kt_store, kt_state, kt_model, kt_core,
 //!   kt_trace
 //! - Begin in: `picture.rt`, then `mark.rt` and `plane.rt` for what stands where, and `words.rt` for what is said.
 #![tactic(auto)]

@@ -4,7 +4,7 @@ use crate::element::{Point, push_box};
 use crate::plane::{BAND, ROW, TITLE};
 use crate::sheet::Sheet;
 use kt_history::Note;
-use kt_node::Mode;
+use kt_state::Mode;
 use kt_trace::TracedStep;
 use kt_tuple::NodeId;
 use kt_tuple::writing::push_number;

@@ -6,7 +6,7 @@ ghost use Rattle.kt_draw.specs.declared.mark.Mark.TheVariants as marks;
 
 use kt_core::Step;
 use kt_history::{Note, What};
-use kt_node::{Message, Mode};
+use kt_state::{Message, Mode};
 use kt_trace::{Ruling, Saving, TracedStep};
 use kt_tuple::NodeId;
 

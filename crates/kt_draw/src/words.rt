@@ -3,7 +3,7 @@
 use crate::story::{Blame, Story};
 use kt_core::Step;
 use kt_history::{Act, Note, What};
-use kt_node::Message;
+use kt_state::Message;
 use kt_trace::{
     Saving, TracedStep, push_begun, push_head, push_instance, push_one, push_ruling, push_undone,
 };
