@@ -14,6 +14,7 @@ use kt_tuple::writing::push_number;
 use std::alloc::{AllocError, Global};
 
 /// A line of words for each entry that is chosen, in order. `AllocError` where memory is wanting.
+#[tactic(auto, using(crate::proofs::Lines::chosen_all))]
 pub fn words_of(alloc: Global, entries: &[Traced], choice: Choice) -> Result<Vec<u8>, AllocError>
     ensures text { IfOk result (λ text. text.items ≡ trace_text (told choice entries.now)) }
 {
