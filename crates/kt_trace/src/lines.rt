@@ -1,10 +1,9 @@
 //! On which lines of a text its steps stand.
 
-ghost use Rattle.std.specs.Prelude.{◌≡◌, ◌<◌, ◌+◌, ◌^◌, ◌++◌, length, IfOk, OnOk};
+ghost use Rattle.std.specs.Prelude.{◌≡◌, ◌<◌, ◌+◌, ◌^◌, ◌++◌, codes, length, IfOk, OnOk};
 ghost use Rattle.kt_text.specs.Lines.{is_ignored, is_word};
 ghost use Rattle.kt_text.specs.Reading.{lines_of};
 ghost use Rattle.kt_trace.specs.StepLines.{step_lines, told_from};
-ghost use Rattle.std.specs.Prelude.{codes};
 
 use kt_text::line_at;
 use std::alloc::{AllocError, Global};
