@@ -1,4 +1,8 @@
 -- What a line of a trace says as JSON: one object for each entry.
+-- Cited by Arrays, Chains, events_json.rt, rows_json.rt, specs/Told, specs/auxiliary/Members,
+--   `events_json::push_act`, `events_json::push_app`, `events_json::push_ask`, `rows_json::json_of`,
+--   `rows_json::push_events`, `rows_json::push_modes`, `rows_json::push_outcome`, `rows_json::push_refused`,
+--   `rows_json::push_row`, `rows_json::push_talk`, `rows_json::push_with`.
 use Rattle.std.specs.Prelude.{ℕ, Bool, List, [], ◌∷◌, ◌++◌, codes, map, Option, None, Some}
 use Rattle.std.specs.List.{flat_map}
 use Rattle.json.specs.Json.{Json, boolean, string}

@@ -1,4 +1,5 @@
 //! Steps, messages and events as JSON.
+//! Cited by rows_json.rt.
 
 ghost use Rattle.std.specs.Prelude.{◌≡◌, ◌++◌, ◌∷◌, [], OnOk, codes};
 ghost use Rattle.json.specs.Tree.{json_tokens};

@@ -1,4 +1,5 @@
 //! On which lines of a text its steps stand.
+//! Cited by telling.rt.
 
 ghost use Rattle.std.specs.Prelude.{◌≡◌, ◌<◌, ◌+◌, ◌^◌, ◌++◌, codes, length, IfOk, OnOk};
 ghost use Rattle.kt_text.specs.Lines.{is_ignored, is_word};

@@ -1,4 +1,5 @@
 //! The lines of a trace as JSON.
+//! Cited by telling.rt.
 
 ghost use Rattle.std.specs.Prelude.{◌≡◌, ◌++◌, ◌∷◌, [], IfOk, OnOk, codes, map};
 ghost use Rattle.std.specs.Option.{option_copied};

@@ -1,4 +1,5 @@
 //! The lines of a trace in words.
+//! Cited by telling.rt.
 
 ghost use Rattle.std.specs.Prelude.{◌≡◌, ◌++◌, IfOk, OnOk};
 ghost use Rattle.kt_trace.specs.Chosen.{chosen_text, told};
