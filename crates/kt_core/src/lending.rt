@@ -1,5 +1,5 @@
 //! What a machine lends of its nodes and of what is on its way, and a world of its store.
-//! Cited by planning.rt, read_sets.rt, world.rt.
+//! Cited by planning.rt, read_sets.rt, world.rt; other crates.
 
 ghost use Rattle.std.specs.Prelude.{◌≡◌, length, slice_get, IfOk};
 ghost use Rattle.std.specs.Option.{option_copied, option_map};

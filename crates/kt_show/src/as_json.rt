@@ -1,4 +1,5 @@
 //! What has a JSON value: values, tuples, templates, operations and answers, and lists of such.
+//! Cited by board_json.rt, node_json.rt, showing_json.rt; other crates; whoever calls the trait `AsJson`.
 
 ghost use Rattle.std.specs.Prelude.{◌≡◌, [], ◌∷◌, ◌++◌, codes, map, OnOk};
 ghost use Rattle.std.specs.Option.{option_copied};

@@ -1,4 +1,5 @@
 //! A JSON text while it is written.
+//! Cited by as_json.rt, board_json.rt, node_json.rt, showing_json.rt; other crates.
 
 ghost use Rattle.std.specs.Prelude.{◌≡◌, [], ◌∷◌, ◌++◌, decimal, OnOk};
 ghost use Rattle.std.specs.Fmt.{signed_decimal};

@@ -3,5 +3,6 @@ pub mod Sending
 pub mod Refused
 pub mod Lines
 pub mod Chains
+pub mod Arrays
 pub mod Stepped
 pub mod Tellings

@@ -1,4 +1,5 @@
 -- A step that was refused, and what its refusal says of its result.
+-- Cited by Stepped.
 use Rattle.std.proofs.Common.{◌≡◌, false, Err, sym, ap}
 use Rattle.std.proofs.lemmas.Bool.{false≢true}
 use Rattle.kt_scenario.specs.declared.step.Step.{Step}

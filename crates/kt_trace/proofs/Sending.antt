@@ -1,4 +1,5 @@
 -- What a node sends: what is new on its links.
+-- Cited by Stepped.
 use Rattle.std.proofs.Common.{◌≡◌, ℕ, suc, ◌+◌, List, [], ◌∷◌, ◌++◌, map, drop, drop-cons, length, slice_get, Some}
 use Rattle.std.proofs.Common.{◌≤◌, sym, ap, ◌∙◌, arith, append_assoc, append-nil}
 use Rattle.std.proofs.lemmas.List.{drop_all}

@@ -1,4 +1,5 @@
 -- The trace of what a text spells.
+-- Cited by no other file of crates/.
 use Rattle.std.proofs.Common.{◌≡◌, ℕ, List, Result, ap, ◌∙◌}
 use Rattle.kt_scenario.specs.declared.step.Step.{Step}
 use Rattle.kt_scenario.specs.Scene.{SceneModel}

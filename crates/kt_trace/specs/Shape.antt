@@ -1,4 +1,8 @@
 -- What a line of a trace says as JSON: one object for each entry.
+-- Cited by Arrays, Chains, events_json.rt, rows_json.rt, specs/Told, specs/auxiliary/Members,
+--   `events_json::push_act`, `events_json::push_app`, `events_json::push_ask`, `rows_json::json_of`,
+--   `rows_json::push_events`, `rows_json::push_modes`, `rows_json::push_outcome`, `rows_json::push_refused`,
+--   `rows_json::push_row`, `rows_json::push_talk`, `rows_json::push_with`.
 use Rattle.std.specs.Prelude.{ℕ, Bool, List, [], ◌∷◌, ◌++◌, codes, map, Option, None, Some}
 use Rattle.std.specs.List.{flat_map}
 use Rattle.json.specs.Json.{Json, boolean, string}
@@ -8,7 +12,6 @@ use Rattle.kt_tuple.specs.declared.node.NodeId.{NodeId}
 use Rattle.kt_tuple.specs.declared.node.NodeId.TheVariants as ids
 use Rattle.kt_tuple.specs.declared.op.Answer.{Answer}
 use Rattle.kt_link.specs.declared.label.Label.{Label}
-use Rattle.kt_shard.specs.declared.request.Request.{Request}
 use Rattle.kt_vote.specs.declared.vote.Vote.{Vote}
 use Rattle.kt_history.specs.declared.note.Act.{Act}
 use Rattle.kt_history.specs.declared.note.Note.{Note}
@@ -82,15 +85,14 @@ mode_json modes.Down = string (codes "down")
 abbrev pub label_json : Label → Json
 label_json l = object_of ((codes "incarnation", count l.incarnation) ∷ (codes "count", count l.count) ∷ [])
 
--- what a request asks for, under which number
-abbrev pub request_members : Request → List Member
-request_members r = (codes "request", count r.number) ∷ (codes "operation", op_json r.op) ∷ []
-
 -- the word, and what is asked and answered
 abbrev pub talk_members : Talk → List Member
-talk_members (talks.Request r) = (codes "word", string (codes "request")) ∷ request_members r
+talk_members (talks.Request r) =
+    (codes "word", string (codes "request")) ∷ (codes "request", count r.number)
+    ∷ (codes "operation", op_json r.op) ∷ []
 talk_members (talks.Reply r answer) =
-    (codes "word", string (codes "reply")) ∷ request_members r ++ (codes "answer", answer_json answer) ∷ []
+    (codes "word", string (codes "reply")) ∷ (codes "request", count r.number) ∷ (codes "operation", op_json r.op)
+    ∷ (codes "answer", answer_json answer) ∷ []
 
 -- with the label, and the number of the event that sent it
 abbrev pub app_json : AppMessage → Json

@@ -1,4 +1,5 @@
 -- On which lines of a text the steps stand.
+-- Cited by Tellings, lines.rt, specs/Told, `lines::push_told`, `lines::step_lines`.
 use Rattle.std.specs.Prelude.{ℕ, ◌+◌, if◌then◌else◌, List, [], ◌∷◌, codes}
 use Rattle.kt_text.specs.Lines.{is_ignored, is_word}
 

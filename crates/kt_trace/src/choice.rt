@@ -1,4 +1,5 @@
 //! Which entries of a trace are told.
+//! Cited by rows_json.rt, telling.rt, words.rt.
 
 ghost use Rattle.std.specs.Prelude.{◌≡◌};
 ghost use Rattle.kt_trace.specs.Chosen.{has_part, is_chosen};

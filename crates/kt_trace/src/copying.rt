@@ -1,4 +1,5 @@
 //! Copies of messages and of events.
+//! Cited by glimpse.rt, ways.rt.
 
 ghost use Rattle.std.specs.Prelude.{◌≡◌, IfOk};
 

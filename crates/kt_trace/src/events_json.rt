@@ -1,18 +1,18 @@
 //! Steps, messages and events as JSON.
+//! Cited by rows_json.rt.
 
 ghost use Rattle.std.specs.Prelude.{◌≡◌, ◌++◌, ◌∷◌, [], OnOk, codes};
 ghost use Rattle.json.specs.Tree.{json_tokens};
 ghost use Rattle.json.specs.Token.{begin_object, key, string};
 ghost use Rattle.std.specs.Option.{option_copied};
 ghost use Rattle.kt_trace.specs.Shape.{act_json, answer_in, app_json, ask_json, event_json, label_json, message_json};
-ghost use Rattle.kt_trace.specs.Shape.{mode_json, of_node, of_pair, of_service, request_members, step_json};
+ghost use Rattle.kt_trace.specs.Shape.{mode_json, of_node, of_pair, of_service, step_json};
 ghost use Rattle.kt_trace.specs.Shape.{talk_members, verdict_json, vote_json, what_word};
 ghost use Rattle.kt_trace.specs.auxiliary.Members.{in_object};
 
 use kt_history::{Act, Note, What};
 use kt_link::Label;
 use kt_scenario::Step;
-use kt_shard::Request;
 use kt_show::{Draft, push_member, push_optional};
 use kt_state::{AppMessage, Ask, Message, Mode, Talk};
 use kt_tuple::{Answer, NodeId};
@@ -26,7 +26,8 @@ fn begin_worded(out: &mut Draft, word: &str) -> Result<(), AllocError>
 {
     out.begin_object()?;
     out.key("word")?;
-    out.string(word)
+    out.string(word)?;
+    Ok(())
 }
 
 /// A step: its word, and then what its line has behind it, in the order of the line.
@@ -123,31 +124,25 @@ fn push_app(out: &mut Draft, app: &AppMessage) -> Result<(), AllocError>
     Ok(())
 }
 
-/// The begin of a request or a reply.
+/// The begin of a request or a reply: the word, and what is asked and answered.
 fn push_talk(out: &mut Draft, talk: &Talk) -> Result<(), AllocError>
     ensures { OnOk result (out.new ≡ out.old ++ begin_object ∷ in_object (talk_members talk.now)) }
 {
     match talk {
         Talk::Request(request) => {
             begin_worded(out, "request")?;
-            push_asked(out, request)
+            push_member(out, "request", &request.number)?;
+            push_member(out, "operation", &request.op)?;
+            Ok(())
         }
         Talk::Reply { request, answer } => {
             begin_worded(out, "reply")?;
-            push_asked(out, request)?;
+            push_member(out, "request", &request.number)?;
+            push_member(out, "operation", &request.op)?;
             push_member(out, "answer", answer)?;
             Ok(())
         }
     }
-}
-
-/// What a request asks for.
-fn push_asked(out: &mut Draft, request: &Request) -> Result<(), AllocError>
-    ensures { OnOk result (out.new ≡ out.old ++ in_object (request_members request.now)) }
-{
-    push_member(out, "request", &request.number)?;
-    push_member(out, "operation", &request.op)?;
-    Ok(())
 }
 
 /// The member with a label.

@@ -1,4 +1,5 @@
 //! A look at a world before a step, and what the step did to it.
+//! Cited by tracing.rt.
 
 ghost use Rattle.std.specs.Prelude.{◌≡◌, IfOk};
 ghost use Rattle.std.specs.Option.{option_copied};

@@ -1,4 +1,5 @@
 //! The first half of a line: who does what to whom.
+//! Cited by tails.rt, words.rt.
 
 ghost use Rattle.std.specs.Prelude.{◌≡◌, ◌++◌, OnOk};
 ghost use Rattle.kt_trace.specs.Words.{act_text, answer_behind, around, arrival_text, control_text, head_text};

@@ -1,6 +1,8 @@
 //! On which lines of a text its steps stand.
+//! Cited by telling.rt.
 
-ghost use Rattle.std.specs.Prelude.{◌≡◌, ◌++◌, IfOk, OnOk};
+ghost use Rattle.std.specs.Prelude.{◌≡◌, ◌<◌, ◌+◌, ◌^◌, ◌++◌, codes, length, IfOk, OnOk};
+ghost use Rattle.kt_text.specs.Lines.{is_ignored, is_word};
 ghost use Rattle.kt_text.specs.Reading.{lines_of};
 ghost use Rattle.kt_trace.specs.StepLines.{step_lines, told_from};
 
@@ -18,7 +20,7 @@ pub fn step_lines(alloc: Global, text: &[u8]) -> Result<Vec<u64>, AllocError>
     while let Some((line, behind)) = line_at(rest) {
         number += 1;
         rest = behind;
-        if line == b"steps".as_slice() {
+        if is_begin(line) {
             push_told(&mut lines, number, rest)?;
             return Ok(lines);
         }
@@ -26,18 +28,33 @@ pub fn step_lines(alloc: Global, text: &[u8]) -> Result<Vec<u64>, AllocError>
     Ok(lines)
 }
 
+/// Whether the steps begin behind this line.
+fn is_begin(line: &[u8]) -> bool
+    ensures { result ≡ is_word line.now (codes "steps") }
+{
+    line == b"steps".as_slice()
+}
+
 /// Puts the numbers of the lines that are not ignored behind the others. The first line has this number.
 fn push_told(lines: &mut Vec<u64>, first: u64, text: &[u8]) -> Result<(), AllocError>
+    requires { first + length text.now < 2 ^ 64 }
     ensures { OnOk result (lines.new.items ≡ lines.old.items ++ told_from first (lines_of text.now).0) }
 {
     let mut number = first;
     let mut rest = text;
     while let Some((line, behind)) = line_at(rest) {
-        if line.first() != Some(&b'#') {
+        if !is_ignored(line) {
             lines.push(number)?;
         }
         number += 1;
         rest = behind;
     }
     Ok(())
+}
+
+/// Whether the line begins with `#`.
+fn is_ignored(line: &[u8]) -> bool
+    ensures { result ≡ is_ignored line.now }
+{
+    line.first() == Some(&b'#')
 }

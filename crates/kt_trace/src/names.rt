@@ -1,4 +1,5 @@
 //! The words of a trace: one table for what nodes do, and one for why a step was refused.
+//! Cited by heads.rt, rows_json.rt, words.rt.
 
 ghost use Rattle.std.specs.Prelude.{◌≡◌};
 ghost use Rattle.kt_trace.specs.Words.{act_verb, arrival_verb, control_verb, deed, refusal_name};

@@ -1,4 +1,5 @@
 //! The lines of a trace as JSON.
+//! Cited by telling.rt.
 
 ghost use Rattle.std.specs.Prelude.{◌≡◌, ◌++◌, ◌∷◌, [], IfOk, OnOk, codes, map};
 ghost use Rattle.std.specs.Option.{option_copied};
@@ -37,6 +38,7 @@ use std::alloc::{AllocError, Global};
 /// - `undone`, how many more services there are behind it that do not survive.
 ///
 /// A step that was refused has `number`, `line`, `step` and `refused`, the name of the refusal.
+#[tactic(auto, using(crate::proofs::Lines::chosen_all))]
 pub fn json_of(alloc: Global, entries: &[Traced], choice: Choice) -> Result<Vec<u8>, AllocError>
     ensures text { IfOk result (λ text. text.items ≡ trace_json (told choice entries.now)) }
 {
@@ -98,7 +100,8 @@ fn push_place(out: &mut Draft, number: u64, line: u64) -> Result<(), AllocError>
         ++ in_object ((codes "number", count number) ∷ (codes "line", count line) ∷ [])) }
 {
     push_member(out, "number", &number)?;
-    push_member(out, "line", &line)
+    push_member(out, "line", &line)?;
+    Ok(())
 }
 
 /// The node, and its mode before and behind the step.
@@ -110,7 +113,8 @@ fn push_modes(out: &mut Draft, row: &TracedStep) -> Result<(), AllocError>
     out.key("was")?;
     push_mode(out, row.was)?;
     out.key("is")?;
-    push_mode(out, row.is)
+    push_mode(out, row.is)?;
+    Ok(())
 }
 
 /// What came, and what was sent.
@@ -124,7 +128,8 @@ fn push_talk(out: &mut Draft, row: &TracedStep) -> Result<(), AllocError>
     push_heard(out, row.heard.as_ref())?;
     push_member(out, "keeps", &row.keeps)?;
     out.key("sent")?;
-    push_sent(out, row.sent.messages())
+    push_sent(out, row.sent.messages())?;
+    Ok(())
 }
 
 fn push_heard(out: &mut Draft, heard: Option<&(NodeId, Message)>) -> Result<(), AllocError>
@@ -168,7 +173,8 @@ fn push_events(out: &mut Draft, row: &TracedStep) -> Result<(), AllocError>
 {
     out.key("event")?;
     push_event_if_any(out, row.note.as_ref())?;
-    push_member(out, "events", &row.notes)
+    push_member(out, "events", &row.notes)?;
+    Ok(())
 }
 
 fn push_event_if_any(out: &mut Draft, note: Option<&Note>) -> Result<(), AllocError>
@@ -191,7 +197,8 @@ fn push_outcome(out: &mut Draft, row: &TracedStep) -> Result<(), AllocError>
     push_saving(out, row.saving)?;
     out.key("verdict")?;
     push_ruling(out, row.ruling)?;
-    push_member(out, "undone", &row.undone)
+    push_member(out, "undone", &row.undone)?;
+    Ok(())
 }
 
 fn push_saving(out: &mut Draft, saving: Option<Saving>) -> Result<(), AllocError>

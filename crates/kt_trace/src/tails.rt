@@ -1,4 +1,5 @@
 //! The second half of a line: what came of it.
+//! Cited by words.rt.
 
 ghost use Rattle.std.specs.Prelude.{◌≡◌, ◌++◌, OnOk};
 ghost use Rattle.std.specs.List.{flat_map};

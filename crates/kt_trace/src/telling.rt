@@ -1,4 +1,5 @@
 //! From the bytes of a scenario of steps to the bytes of its trace.
+//! Cited by no other file of crates/.
 
 ghost use Rattle.std.specs.Prelude.{◌≡◌, IfErr, IfOk};
 ghost use Rattle.kt_trace.specs.Told.{EndsTrace, IsTold, IsUntold, end_by, end_of, form_text, told_text};

@@ -1,4 +1,5 @@
 //! What is told of a step: a row of plain data.
+//! Cited by choice.rt, glimpse.rt, heads.rt, rows_json.rt, tails.rt, telling.rt, tracing.rt, words.rt.
 
 use kt_history::Note;
 use kt_model::StepError;

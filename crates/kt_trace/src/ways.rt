@@ -1,4 +1,5 @@
 //! What a node sends in a step: what is new on its links.
+//! Cited by glimpse.rt.
 
 ghost use Rattle.std.specs.Prelude.{◌≡◌, ◌++◌, [], ◌∷◌, IfOk, OnOk, map};
 ghost use Rattle.std.specs.List.{flat_map};

@@ -1,4 +1,5 @@
 -- A look at the state before a step, and the row that it gives with the state behind it.
+-- Cited by Sending, Stepped, glimpse.rt, ways.rt, `Ways::sent_since`, `ways::counts_to`.
 use Rattle.std.specs.Prelude.{ℕ, ◌-◌, nat_lt, List, map, drop, length}
 use Rattle.std.specs.List.{flat_map}
 use Rattle.kt_tuple.specs.declared.node.NodeId.{NodeId}

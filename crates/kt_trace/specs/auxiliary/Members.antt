@@ -1,4 +1,5 @@
 -- Members of an object that are written one behind the other.
+-- Cited by Chains, events_json.rt, rows_json.rt, `events_json::push_app`.
 use Rattle.std.specs.Prelude.{List, [], ◌∷◌, ◌++◌}
 use Rattle.json.specs.Token.{Token, key}
 use Rattle.json.specs.Tree.{json_tokens}

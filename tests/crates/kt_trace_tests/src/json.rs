@@ -54,7 +54,7 @@ fn one_object_a_line(rt: HostRuntime) -> Result<(), Fail> {
             to: number,
             node: None,
         };
-        let (_, told) = traced(alloc, &text, Form::Json, choice);
+        let (_, told) = traced(alloc, text.as_str(), Form::Json, choice);
         let told = str::from_utf8(&told).unwrap_or("no text");
         let expected = format!(in alloc; "{line}{REFUSED}")?;
         assert!(rt; told == expected.as_str(), "{told}");

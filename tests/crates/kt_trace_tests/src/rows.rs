@@ -44,7 +44,10 @@ fn a_row_a_step(rt: HostRuntime) -> Result<(), Fail> {
         to: 14,
         node: Some(NodeId::Shard(1)),
     };
-    assert!(rt; words_of(alloc, &entries, choice)?.as_slice() == b"14 s1 fails\n".as_slice(), "words");
-    assert!(rt; json_of(alloc, &entries, choice)?.starts_with(b"{\"number\":14,".as_slice()), "json");
+    let told = words_of(alloc, &entries, choice)?;
+    assert!(rt; told.as_slice() == b"14 s1 fails\n".as_slice(), "{told:?}");
+    let told = json_of(alloc, &entries, choice)?;
+    let told = str::from_utf8(&told).unwrap_or("no text");
+    assert!(rt; told.starts_with("{\"number\":14,"), "{told}");
     Ok(())
 }

@@ -141,7 +141,7 @@ fn one_form_a_kind_of_step(rt: HostRuntime) -> Result<(), Fail> {
             node: None,
         };
         let text = with_step(alloc, before, steps)?;
-        let (_, told) = traced(alloc, &text, Form::Words, choice);
+        let (_, told) = traced(alloc, text.as_str(), Form::Words, choice);
         let told = str::from_utf8(&told).unwrap_or("no text");
         assert!(rt; told == expected, "{told}");
     }
@@ -152,7 +152,7 @@ fn one_form_a_kind_of_step(rt: HostRuntime) -> Result<(), Fail> {
 fn a_refused_step_is_the_answer(rt: HostRuntime) -> Result<(), Fail> {
     let alloc = rt.alloc();
     let text = with_step(alloc, PUT_AND_TAKE, "take w1\nissue w1")?;
-    let (answer, told) = traced(alloc, &text, Form::Words, Choice::ALL);
+    let (answer, told) = traced(alloc, text.as_str(), Form::Words, Choice::ALL);
     assert_eq!(rt;
         answer,
         Err(ReplayFault::Step {
@@ -185,7 +185,7 @@ fn what_is_chosen(rt: HostRuntime) -> Result<(), Fail> {
 fn a_text_with_a_fault(rt: HostRuntime) -> Result<(), Fail> {
     let alloc = rt.alloc();
     let text = with_step(alloc, PUT_AND_TAKE, "issue x1")?;
-    let (answer, told) = traced(alloc, &text, Form::Words, Choice::ALL);
+    let (answer, told) = traced(alloc, text.as_str(), Form::Words, Choice::ALL);
     assert!(rt; matches!(answer, Err(ReplayFault::Scene { line: 15, .. })), "{answer:?}");
     assert_eq!(rt; told.len(), 0);
     Ok(())
