@@ -13,7 +13,7 @@ use crate::style::STYLE;
 use crate::way::push_arrow;
 use crate::words::words_of;
 use kt_history::{Note, What};
-use kt_trace::{Refused, TracedStep, push_refusal};
+use kt_trace::{Choice, Refused, Traced, TracedStep, words_of as trace_of};
 use kt_tuple::NodeId;
 use kt_tuple::writing::push_number;
 use std::alloc::{AllocError, Global};
@@ -73,9 +73,19 @@ fn sheet_of(
     })
 }
 
+/// The trace's line of a step that was refused, without the number, which stands before the columns.
 fn refused_text(alloc: Global, refused: Refused) -> Result<Vec<u8>, AllocError> {
+    let mut entries = Vec::new(alloc);
+    entries.push(Traced::Refused(refused))?;
+    let line = trace_of(alloc, &entries, Choice::ALL)?;
     let mut text = Vec::new(alloc);
-    push_refusal(&mut text, refused)?;
+    let mut is_behind = false;
+    for character in line.iter() {
+        if is_behind && *character != b'\n' {
+            text.push(*character)?;
+        }
+        is_behind = is_behind || *character == b' ';
+    }
     Ok(text)
 }
 

@@ -33,4 +33,4 @@ pub use tails::{push_begun, push_one, push_ruling, push_undone};
 pub use telling::{Form, write_trace};
 pub use traced::{Refused, Ruling, Saving, Traced, TracedStep};
 pub use tracing::{trace, trace_step};
-pub use words::{push_refusal, words_of};
+pub use words::words_of;

@@ -64,16 +64,11 @@ fn push_refused(out: &mut Vec<u8>, refused: Refused) -> Result<(), AllocError>
 {
     push_number(out, refused.number)?;
     out.push(b' ')?;
-    push_refusal(out, refused)?;
-    out.push(b'\n')?;
-    Ok(())
-}
-
-/// The step, and why it was refused.
-pub fn push_refusal(out: &mut Vec<u8>, refused: Refused) -> Result<(), AllocError> {
     push_step(out, refused.step)?;
     out.extend_from_slice(b" is refused: ")?;
     push_number(out, u64::from(refused.cause.number()))?;
     out.push(b' ')?;
-    out.extend_from_slice(refusal_name(refused.cause).as_bytes())
+    out.extend_from_slice(refusal_name(refused.cause).as_bytes())?;
+    out.push(b'\n')?;
+    Ok(())
 }
