@@ -18,6 +18,9 @@ use kt_tuple::NodeId;
 use kt_tuple::writing::push_number;
 use std::alloc::{AllocError, Global};
 
+/// What is said where there is no row.
+const NOTHING: &[u8] = b"no step was made";
+
 /// All that a picture is drawn of.
 #[derive(Debug, Drop)]
 struct Drawing {
@@ -54,7 +57,11 @@ fn sheet_of(
     rows: &[TracedStep],
     first: u64,
 ) -> Result<Sheet, AllocError> {
-    let mut longest = 0;
+    let mut longest = if rows.is_empty() {
+        NOTHING.len() as u64
+    } else {
+        0
+    };
     for row in rows {
         longest = words_of(alloc, story, row)?.count().max(longest);
     }
@@ -362,7 +369,8 @@ fn push_end(
         return push_label(out, b"t", Point { x, y }, &refused_text(alloc, refused)?);
     }
     if sheet.plane.rows == 0 {
-        push_label(out, b"q", Point { x: NUMBERS, y }, b"no step was made")
+        let x = sheet.text_x();
+        push_label(out, b"q", Point { x, y }, NOTHING)
     } else {
         Ok(())
     }
