@@ -1,0 +1,3 @@
+#![tactic(auto)]
+mod note;
+pub use note::{Act, Note, What};

@@ -1,0 +1,3 @@
+#![tactic(auto)]
+mod step;
+pub use step::Step;

@@ -1,0 +1,5 @@
+#![tactic(auto)]
+
+mod writing;
+
+pub use writing::push_step;

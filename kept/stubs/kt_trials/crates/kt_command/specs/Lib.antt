@@ -1,0 +1,4 @@
+pub mod Command
+pub mod Status
+pub mod Answers
+pub mod Repeated

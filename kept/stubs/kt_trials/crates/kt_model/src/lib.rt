@@ -1,0 +1,6 @@
+//! Mini.
+#![tactic(auto)]
+
+mod error;
+
+pub use error::StepError;

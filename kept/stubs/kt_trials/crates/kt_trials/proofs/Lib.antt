@@ -1,0 +1,4 @@
+pub mod Firsts
+pub mod Memory
+pub mod Told
+pub mod Behind

@@ -1,0 +1,6 @@
+pub mod Times
+pub mod Memory
+pub mod Tally
+pub mod Runs
+pub mod Chaos
+pub mod auxiliary

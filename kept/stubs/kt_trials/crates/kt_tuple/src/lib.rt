@@ -1,0 +1,7 @@
+//! Mini.
+#![tactic(auto)]
+
+mod node;
+pub mod writing;
+
+pub use node::NodeId;

@@ -1,0 +1,6 @@
+//! Mini.
+#![tactic(auto)]
+
+mod start;
+
+pub use start::Start;

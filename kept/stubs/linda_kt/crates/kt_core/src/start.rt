@@ -1,0 +1,10 @@
+//! Mini.
+
+/// Start.
+#[derive(Clone, Copy, Debug, PartialEq, Eq)]
+pub enum Start {
+    /// A.
+    Open,
+    /// B.
+    Resume,
+}

@@ -1,0 +1,6 @@
+//! Mini.
+#![tactic(auto)]
+
+mod running;
+
+pub use running::Output;

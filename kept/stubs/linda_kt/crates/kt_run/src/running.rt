@@ -1,0 +1,10 @@
+//! Mini.
+
+/// Output.
+#[derive(Clone, Copy, Debug, PartialEq, Eq)]
+pub enum Output {
+    /// A.
+    Report,
+    /// B.
+    Journal,
+}

@@ -1,0 +1,4 @@
+//! Mini.
+#![tactic(auto)]
+
+pub use kt_core::Start;

@@ -1,0 +1,7 @@
+-- Words of the command line.
+use Rattle.std.specs.Cmp.Lexicographic.{pointwise}
+use Rattle.std.specs.Prelude.{ℕ, Bool, List, nat_eq}
+
+-- the text is this word
+abbrev pub is_word : List ℕ → List ℕ → Bool
+is_word text word = pointwise nat_eq text word
