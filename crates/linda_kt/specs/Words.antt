@@ -88,8 +88,8 @@ has_flag flag rows = is_true (first_of flag rows)
 abbrev pub required_text : Option Text → Text
 required_text o = unwrap_or o []
 
--- what a subcommand and its words ask: a command, the file of its store, and whether its fault is explained; or the file
--- that is to be carried over
+-- what a subcommand and its words ask: a command, the file of its store, and whether its fault is explained; or the
+-- file that is to be carried over
 abbrev pub request_of : Text × List Row → Option Asked
 request_of p =
     if is_word p.0 (codes "migrate") then Some (Carries (required_text (first_of (codes "store") p.1)))
@@ -178,7 +178,8 @@ resumed_run_wants_a_file = refl
 -- a command has no fault with the flag `--explain`, and asks then for its fault to be explained
 pub explain_passes : (words_fault (codes "replay" ∷ codes "--explain" ∷ []) ≡ [])
     × (asked_by (codes "replay" ∷ codes "--explain" ∷ []) ≡ Some (Makes (Replay Open) None true))
-    × (asked_by (codes "run" ∷ codes "--explain" ∷ codes "--journal" ∷ []) ≡ Some (Makes (Run Open outputs.Journal) None true))
+    × (asked_by (codes "run" ∷ codes "--explain" ∷ codes "--journal" ∷ [])
+    ≡ Some (Makes (Run Open outputs.Journal) None true))
     × (asked_by (codes "resume" ∷ codes "--store" ∷ codes "a.db" ∷ codes "--explain" ∷ [])
     ≡ Some (Makes (Replay Resume) (Some (codes "a.db")) true))
 unfolding clap_on_literals

@@ -126,8 +126,8 @@ fn run_texts<
 }
 
 /// Does what the words ask, which are those after the program's name, and answers the exit status.
-/// A fault is one line on `errors`, with what explains it where the words ask for that or where a person watches; of wrong
-/// words it is the text of `clap`.
+/// A fault is one line on `errors`, with what explains it where the words ask for that or where a person watches; of
+/// wrong words it is the text of `clap`.
 pub fn run_program<
     D: Alter + Drop + Send,
     C: Drop,

@@ -15,7 +15,7 @@ use kt_tuple::{Answer, NodeId, Op, Template, Tuple, Value};
 use std::alloc::Global;
 use std::test::Fail;
 
-const W1: NodeId = NodeId::Worker(1);
+const WORKER: NodeId = NodeId::Worker(1);
 
 const S1: NodeId = NodeId::Shard(1);
 
@@ -59,7 +59,7 @@ fn acts(alloc: Global, node: NodeId, count: u8) -> Result<Acts, Fail>
     for _ in 0..count {
         let (by, what) = match node {
             NodeId::Worker(_) => (None, What::Issue),
-            NodeId::Shard(_) => (Some((W1, 1)), What::Heard),
+            NodeId::Shard(_) => (Some((WORKER, 1)), What::Heard),
         };
         acts.push(LogAct {
             by,
@@ -89,11 +89,11 @@ fn checkpoint_of_worker(alloc: Global, count: u8, state: WorkerState) -> Result<
     if !is_counted(&state) {
         return Err(Fail::new("the worker is too large"));
     }
-    let acts = acts(alloc, W1, count)?;
+    let acts = acts(alloc, WORKER, count)?;
     let labels = vec![in alloc; Label::default()]?;
     let more = vec![in alloc; Label::default()]?;
     let len = acts.len();
-    Ok(Ckpt::new(alloc, W1, len, labels, more, State::Worker(state), acts)?)
+    Ok(Ckpt::new(alloc, WORKER, len, labels, more, State::Worker(state), acts)?)
 }
 
 fn checkpoint_of_shard(alloc: Global) -> Result<Ckpt, Fail> {
@@ -175,13 +175,13 @@ fn a_worker_a_shard_and_three_instances(rt: HostRuntime) -> Result<(), Fail> {
     let mut store = MemStore::new(alloc);
     let state = WorkerState::new(1, 1, false, Some(out(alloc)?), Vec::new(alloc));
     let first = checkpoint_of_worker(alloc, 1, state)?;
-    begin(&mut store, alloc, W1, &first)?;
+    begin(&mut store, alloc, WORKER, &first)?;
     decide(&mut store, 1, true)?;
-    promote(&mut store, alloc, W1)?;
+    promote(&mut store, alloc, WORKER)?;
     let values = vec![in alloc; Value::Int(1), Value::Bool(true)]?;
     let state = WorkerState::new(4, 3, true, None, values);
     let second = checkpoint_of_worker(alloc, 3, state)?;
-    begin(&mut store, alloc, W1, &second)?;
+    begin(&mut store, alloc, WORKER, &second)?;
     store.begin_restart(S1)?;
     decide(&mut store, 3, false)?;
     join(&mut store, alloc, S1, 2, &checkpoint_of_shard(alloc)?)?;
