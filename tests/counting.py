@@ -77,7 +77,7 @@ def laws():
 def wrong_bodies(crate):
     """How many wrong bodies the gate tries of the crate, and how many stand beside it."""
     paths = [path for (owner, _), path in edits().items() if owner == crate]
-    in_gate = sum(path.startswith("crates/") for path in paths)
+    in_gate = sum(path.startswith("crates/") or text_of(path).startswith("only: ") for path in paths)
     return in_gate, len(paths) - in_gate
 
 

@@ -8,7 +8,7 @@ import tempfile
 
 from on_program.starting import FOLDER, ROOT, start, tell, told
 
-TESTS = f"{ROOT}/crates/kt_explain/src/tests"
+TESTS = f"{ROOT}/tests/inside/kt_explain/tests"
 ESCAPES = {"n": "\n", "r": "\r", "t": "\t", '"': '"', "\\": "\\", "0": "\0"}
 LITERAL = re.compile(r'r#"(?P<raw>.*?)"#|"(?P<plain>(?:[^"\\]|\\.)*)"', re.DOTALL)
 TABLE = re.compile(r"(?:const|static) (\w+): &\[Row\] = &\[(.*?)\]?\)?\];\n", re.DOTALL)
@@ -30,12 +30,12 @@ def text_of(literal):
 def rows():
     """The rows of the tests of kt_explain: a name, the command, a text, and what is said of it."""
     tables = {}
-    for path in glob.glob(f"{TESTS}/*.rt"):
+    for path in glob.glob(f"{TESTS}/*.rs"):
         with open(path, encoding="utf-8") as file:
             for name, body in TABLE.findall(file.read()):
                 texts = [text_of(literal) for literal in LITERAL.finditer(body)]
                 tables[name] = list(zip(texts[::3], texts[1::3], texts[2::3]))
-    with open(f"{TESTS}.rt", encoding="utf-8") as file:
+    with open(f"{TESTS}.rs", encoding="utf-8") as file:
         page = file.read()
     above = {name: text_of(LITERAL.fullmatch(text)) for name, text in CONSTANT.findall(page)}
     for place, kind, table in CALL.findall(page):

@@ -28,8 +28,6 @@ mod script_word;
 mod shown;
 mod spacing;
 mod step_word;
-#[cfg(test)]
-mod tests;
 mod tuple;
 mod variable;
 mod words;

@@ -1,5 +1,5 @@
 //! Labels of messages.
-//! Cited by laws.rt, tests.rt; other crates.
+//! Cited by laws.rt; other crates.
 
 ghost use Rattle.std.specs.Prelude.{◌↔◌, IsTrue};
 

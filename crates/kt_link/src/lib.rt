@@ -16,6 +16,3 @@ pub use laws::{
     other_links_stay,
 };
 pub use links::Links;
-
-#[cfg(test)]
-mod tests;

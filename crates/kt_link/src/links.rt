@@ -1,5 +1,5 @@
 //! The links between workers and shards.
-//! Cited by tests.rt; other crates.
+//! Cited by other crates.
 
 ghost use Rattle.std.specs.Prelude.{◌≡◌, ◌+◌, ◌*◌, ◌<◌, ◌≤◌, ◌↔◌, ◌++◌, ◌∷◌, [], drop, length, map};
 ghost use Rattle.std.specs.Prelude.{replicate, slice_get, IsTrue, IsOk, IfOk, IfErr, IfSome, OnOk, OnErr};

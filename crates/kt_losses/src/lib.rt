@@ -14,6 +14,3 @@ pub use laws::{
     a_cut_loses_what_survived_until_it, a_lost_service_was_lost_by_one_cut, one_list_of_losses_fits,
 };
 pub use loss::{Loss, losses};
-
-#[cfg(test)]
-mod tests;

@@ -11,8 +11,8 @@ use std::fmt::Write;
 const NOT_FRESH: &str =
     "the store holds what an earlier command left: name another file, or go on from it by `resume` or `run --resume`";
 
-/// What the fault means and what to do, on a line that begins with two spaces. Nothing of a fault that has a line of the
-/// text: `explain_text` and `explain_step` explain that.
+/// What the fault means and what to do, on a line that begins with two spaces. Nothing of a fault that has a line of
+/// the text: `explain_text` and `explain_step` explain that.
 pub fn explain_fault(alloc: Global, fault: ReplayFault) -> Result<Vec<u8>, AllocError> {
     let mut out = String::new(alloc);
     match fault {
@@ -21,8 +21,8 @@ pub fn explain_fault(alloc: Global, fault: ReplayFault) -> Result<Vec<u8>, Alloc
             let name = Name(node);
             writeln!(
                 out,
-                "  what the store holds of {name} is not what this scene leaves: it was made by a scenario with other shards, \
-                 workers or scripts"
+                "  what the store holds of {name} is not what this scene leaves: it was made by a scenario with other \
+                 shards, workers or scripts"
             )?;
         }
         ReplayFault::Open(OpenError::Store(cause))

@@ -23,7 +23,8 @@ pub(crate) fn push_missing<S: CkptStore>(
         Step::Serve { shard, worker, .. } => push_not_waiting(out, world, shard, worker),
         Step::Decide { .. } => write!(
             out,
-            "{owner} did not begin the instance in which it takes part, or that has its verdict already: `learn {owner}`"
+            "{owner} did not begin the instance in which it takes part, or that has its verdict already: \
+             `learn {owner}`"
         ),
         Step::Abandon { .. } => write!(
             out,

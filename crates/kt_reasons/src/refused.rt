@@ -38,9 +38,9 @@ fn line_of_step(text: &[u8], at: usize) -> Option<(usize, &[u8])> {
     None
 }
 
-/// Why the step of this number, counted from 1, was refused by the world: its line in the text, and the reason in words,
-/// each on a line that begins with two spaces. Nothing where memory was wanting, which has no other reason, or where the
-/// text has no such step.
+/// Why the step of this number, counted from 1, was refused by the world: its line in the text, and the reason in
+/// words, each on a line that begins with two spaces. Nothing where memory was wanting, which has no other reason, or
+/// where the text has no such step.
 pub fn explain_step<S: CkptStore>(
     alloc: Global,
     text: &[u8],

@@ -23,6 +23,3 @@ mod state;
 
 pub use showing::show;
 pub use showing_json::show_json;
-
-#[cfg(test)]
-mod tests;

@@ -1,5 +1,5 @@
 //! Closing a stage: whether each seat keeps just the journal's steps of its node, with their places.
-//! Cited by running.rt; other crates.
+//! Cited by running.rt.
 
 ghost use Rattle.std.specs.Prelude.{◌≡◌, ◌≢◌, ◌↔◌, ◌++◌, List, IfErr, IfNone, IfOk, IfSome, IsPermutation};
 ghost use Rattle.std.specs.Prelude.{All, IsTrue, MatchOption};

@@ -12,7 +12,8 @@ use Rattle.kt_state.specs.Updating.{no_update}
 -- what becomes of the node
 abbrev pub update_of : ShortUpdate → Update
 update_of (updates.Asks to asker) = record no_update { body = bodies.Work asker; said = Some to }
-update_of (updates.Accepts from label hearer) = record no_update { body = bodies.Work hearer; heard = Some (from, label) }
+update_of (updates.Accepts from label hearer) =
+    record no_update { body = bodies.Work hearer; heard = Some (from, label) }
 update_of (updates.Waits p label r) = record no_update { body = bodies.Wait (node_number p) r; heard = Some (p, label) }
 update_of (updates.Answers from label) = record no_update { heard = Some (from, label); said = Some from }
 update_of (updates.Serves worker s) = record no_update { body = bodies.Serve worker s; said = Some (ids.Worker worker) }

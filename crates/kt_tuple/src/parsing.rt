@@ -1,5 +1,5 @@
 //! Tuples and templates from their text: first judged without memory, then built.
-//! Cited by other crates.
+//! Cited by no other file of crates/.
 
 ghost use Rattle.std.specs.Prelude.{◌≡◌, ◌++◌, IfOk, IfErr, OnOk, option_to_list, IfSome, None, Err};
 ghost use Rattle.kt_tuple.specs.Grammar.{IsValueText, IsPlaceText, Explains, IsAccepted};

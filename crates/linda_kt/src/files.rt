@@ -1,5 +1,5 @@
 //! The stores in files.
-//! Cited by tests.rt; whoever calls the trait `Carries`, `Opens` or `Shows`.
+//! Cited by whoever calls the trait `Carries`, `Opens` or `Shows`.
 ghost use Rattle.std.specs.Prelude.{◌≡◌, false};
 ghost use Rattle.sqlite.specs.Files.{over_files};
 ghost use Rattle.linda_kt.specs.Files.{CarriesFile, ConnectsFile, OpensFile, OpensStore};

@@ -6,24 +6,16 @@
 //!
 //! - Contract: `run_program`, clause `told`: words without a fault do their command over the store that they name, and
 //!   the exit status says how it ended; what `linda_kt` writes is what that command may write.
-//! - Stands on: kt_tuple, kt_store, kt_sql_tables, kt_sql, kt_scene, kt_stage, kt_run, kt_words, kt_command; of the kit: sqlite,
-//!   clap, os, thiserror
+//! - Stands on: kt_tuple, kt_store, kt_sql_tables, kt_sql, kt_scene, kt_stage, kt_run, kt_words, kt_command; of the kit:
+//!   sqlite, clap, os, thiserror
 //! - Begin in: `program.rt`; the grammar of the words is in `grammar.rt`, and what they ask in `words.rt`.
 #![tactic(auto)]
 
 mod copies;
-#[cfg(test)]
-mod copies_tests;
 mod files;
 mod grammar;
-#[cfg(test)]
-mod opener_tests;
 mod program;
 mod progress;
-#[cfg(test)]
-mod run_tests;
-#[cfg(test)]
-mod tests;
 mod words;
 
 use crate::files::Files;

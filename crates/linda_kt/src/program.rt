@@ -1,5 +1,5 @@
 //! What the program does with its words and its three streams.
-//! Cited by opener_tests.rt, tests.rt.
+//! Cited by no other file of crates/.
 ghost use Rattle.std.specs.Prelude.{◌≡◌, ◌≢◌, ◌⊎◌, [], IsErr, IfErr, IfOk, true};
 ghost use Rattle.std.specs.IoError.{error_kind};
 ghost use Rattle.std.specs.declared.io.ErrorKind.TheVariants as io_kind;
@@ -142,8 +142,8 @@ fn run_texts<
 }
 
 /// Does what the words ask, which are those after the program's name, and answers the exit status.
-/// A fault is one line on `errors`, with what explains it where the words ask for that or where a person watches; of wrong
-/// words it is the text of `clap`.
+/// A fault is one line on `errors`, with what explains it where the words ask for that or where a person watches; of
+/// wrong words it is the text of `clap`.
 pub fn run_program<
     D: Alter + Drop + Send,
     C: Drop,
