@@ -1,10 +1,14 @@
 //! Mistakes that people make, and all that is said of each.
+mod commands;
 mod heads;
 mod scripts;
 mod tuples;
 mod work;
 
-use crate::tests::heads::{BEHIND_END, IN_SHARDS, IN_TITLE, IN_TITLE_OF_RUN, IN_WORKERS};
+use crate::tests::commands::IN_COMMANDS;
+use crate::tests::heads::{
+    BEHIND_END, IN_SHARDS, IN_SHARDS_OF_RUN, IN_TITLE, IN_TITLE_OF_RUN, IN_WORKERS, IN_WORKERS_OF_RUN,
+};
 use crate::tests::scripts::{IN_JOURNAL, IN_NAMES, IN_RESUMED, IN_SCRIPT, IN_SCRIPT_OF_RUN};
 use crate::tests::tuples::IN_TUPLES;
 use crate::tests::work::{IN_FAULTS, IN_MORE_NODES, IN_STEPS};
@@ -57,6 +61,14 @@ fn each_mistake_above_the_commands_is_named(rt: HostRuntime) -> Result<(), Fail>
         WorkKind::Steps,
         IN_WORKERS,
     )?;
+    assert_said(&rt, alloc, "linda-kt 1\n", WorkKind::Faults, IN_SHARDS_OF_RUN)?;
+    assert_said(
+        &rt,
+        alloc,
+        "linda-kt 1\nshards 1\n",
+        WorkKind::Faults,
+        IN_WORKERS_OF_RUN,
+    )?;
     Ok(())
 }
 
@@ -64,6 +76,7 @@ fn each_mistake_above_the_commands_is_named(rt: HostRuntime) -> Result<(), Fail>
 fn each_mistake_among_the_commands_is_named(rt: HostRuntime) -> Result<(), Fail> {
     let alloc = rt.alloc();
     assert_said(&rt, alloc, SCRIPT, WorkKind::Steps, IN_SCRIPT)?;
+    assert_said(&rt, alloc, SCRIPT, WorkKind::Steps, IN_COMMANDS)?;
     assert_said(&rt, alloc, SCRIPT, WorkKind::Faults, IN_SCRIPT_OF_RUN)?;
     assert_said(&rt, alloc, NAMES, WorkKind::Steps, IN_NAMES)?;
     Ok(())

@@ -95,17 +95,47 @@ pub(crate) static IN_TITLE: &[Row] = &[
         r#"  there are remarks alone: `linda-kt 1` is wanted
 "#,
     ),
+    (
+        "an empty line above all",
+        "\n",
+        "",
+    ),
 ];
 
 /// The first line, given to run.
-pub(crate) static IN_TITLE_OF_RUN: &[Row] = &[(
-    "CR LF in run",
-    "linda-kt 1\r\n",
+pub(crate) static IN_TITLE_OF_RUN: &[Row] = &[
+    (
+        "CR LF in run",
+        "linda-kt 1\r\n",
     r#"  linda-kt 1\r
             ^
   the line ends with CR LF: lines end with LF alone, so save the text with Unix line ends
 "#,
-)];
+    ),
+    (
+        "a database given to run",
+        "SQLite format 3\0\n",
+        "",
+    ),
+];
+
+/// The second line, given to run.
+pub(crate) static IN_SHARDS_OF_RUN: &[Row] = &[
+    (
+        "the text ends, in run",
+        "",
+        "",
+    ),
+];
+
+/// Where the first worker is wanted, in run.
+pub(crate) static IN_WORKERS_OF_RUN: &[Row] = &[
+    (
+        "the text ends, in run",
+        "",
+        "",
+    ),
+];
 
 /// The second line.
 pub(crate) static IN_SHARDS: &[Row] = &[
@@ -147,6 +177,11 @@ pub(crate) static IN_SHARDS: &[Row] = &[
         r#"  `shards N` is wanted here, N from 1 to 8: write it behind `linda-kt 1`
 "#,
     ),
+    (
+        "two shards in words",
+        "shards: 2\n",
+        "",
+    ),
 ];
 
 /// Where the first worker is wanted.
@@ -185,6 +220,16 @@ pub(crate) static IN_WORKERS: &[Row] = &[
         "",
         r#"  `worker` is missing: a scenario has at least one worker
 "#,
+    ),
+    (
+        "no word of a script",
+        "thread 1\n",
+        "",
+    ),
+    (
+        "`workers`",
+        "workers\n",
+        "",
     ),
 ];
 

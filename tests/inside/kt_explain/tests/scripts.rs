@@ -57,86 +57,6 @@ pub(crate) static IN_SCRIPT: &[Row] = &[
 "#,
     ),
     (
-        "minus",
-        "set x = x - 1\n",
-        r#"  set x = x - 1
-           ^
-  `set x = y + K` is the only form: for minus write `+ -`, as in `set x = x + -1`
-"#,
-    ),
-    (
-        "a constant",
-        "set x = 5\n",
-        r#"  set x = 5
-          ^
-  `set x = y + K` is the only form: no constant can be set, but `in` can bind one out of a tuple
-"#,
-    ),
-    (
-        "no spaces around +",
-        "set x = x+1\n",
-        r#"  set x = x+1
-           ^
-  one space stands before and behind `+`, as in `set x = y + 1`
-"#,
-    ),
-    (
-        "no spaces around =",
-        "set x=x + 1\n",
-        r#"  set x=x + 1
-       ^
-  ` = ` is wanted here, with one space before and behind `=`
-"#,
-    ),
-    (
-        "nothing is added",
-        "set y = x\n",
-        r#"  set y = x
-           ^
-  `set x = y + K` is the only form: write ` + 0` behind it where x is to be y
-"#,
-    ),
-    (
-        "two names are added",
-        "set y = x + x\n",
-        r#"  set y = x + x
-              ^
-  K of `set x = y + K` is an int, as 1 or -1: no name can stand here
-"#,
-    ),
-    (
-        "`set` with a bad name",
-        "set Y = x + 1\n",
-        r#"  set Y = x + 1
-      ^
-  a name begins with a small letter, a to z
-"#,
-    ),
-    (
-        "64 bits behind `set`",
-        "set y = x + 9223372036854775808\n",
-        r#"  set y = x + 9223372036854775808
-              ^
-  an int has 64 bits: write one from -9223372036854775808 to 9223372036854775807
-"#,
-    ),
-    (
-        "unless 0",
-        "unless 0\n",
-        r#"  unless 0
-         ^
-  the form is `unless N`, N from 1 to 200, with no zeros in front
-"#,
-    ),
-    (
-        "unless 201",
-        "unless 201\n",
-        r#"  unless 201
-         ^
-  the form is `unless N`, N from 1 to 200, with no zeros in front
-"#,
-    ),
-    (
         "fault lines given to replay",
         "faults\n",
         r#"  faults
@@ -206,6 +126,51 @@ pub(crate) static IN_SCRIPT: &[Row] = &[
   the last line has no line feed: put one at its end
 "#,
     ),
+    (
+        "a line of spaces",
+        "   \n",
+        "",
+    ),
+    (
+        "`take`, a word of another space",
+        "take (\"a\", ?int)\n",
+        "",
+    ),
+    (
+        "`Get`, a word of another space",
+        "Get (\"a\", ?int)\n",
+        "",
+    ),
+    (
+        "another word that is none",
+        "frob (\"a\")\n",
+        "",
+    ),
+    (
+        "a colon behind the verb",
+        "out: (\"a\", 1)\n",
+        "",
+    ),
+    (
+        "`steps` with more on its line",
+        "steps 1\n",
+        "",
+    ),
+    (
+        "a control byte",
+        "out\x01 (\"a\", 1)\n",
+        "",
+    ),
+    (
+        "a word that is no ASCII",
+        "\u{f6}ut (\"a\", 1)\n",
+        "",
+    ),
+    (
+        "CR within the line",
+        "out \r (\"a\", 1)\n",
+        "",
+    ),
 ];
 
 /// Where commands are wanted, in a scenario of fault lines.
@@ -247,6 +212,11 @@ pub(crate) static IN_SCRIPT_OF_RUN: &[Row] = &[
         "",
         r#"  `faults` and `end` are missing: write both at the end
 "#,
+    ),
+    (
+        "a word that is none",
+        "frob (\"a\")\n",
+        "",
     ),
 ];
 
@@ -327,5 +297,10 @@ pub(crate) static IN_NAMES: &[Row] = &[
        ^
   nothing has bound this name yet: bind it in a command above, as in `in ("a", ?int x)`
 "#,
+    ),
+    (
+        "a str that is set",
+        "set s = n + 1\n",
+        "",
     ),
 ];

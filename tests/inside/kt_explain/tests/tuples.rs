@@ -255,4 +255,84 @@ pub(crate) static IN_TUPLES: &[Row] = &[
   no floats: write an int, or a str as in `"1.5"`
 "#,
     ),
+    (
+        "nothing behind `(`",
+        "out (\n",
+        "",
+    ),
+    (
+        "`int` in `out`",
+        "out (\"a\", int)\n",
+        "",
+    ),
+    (
+        "a quote that is escaped",
+        "out (\"a\\\")\n",
+        "",
+    ),
+    (
+        "a comma and a space at the end",
+        "out (\"a\", )\n",
+        "",
+    ),
+    (
+        "two commas",
+        "out (\"a\", , 1)\n",
+        "",
+    ),
+    (
+        "two spaces behind a comma",
+        "out (\"a\",  1)\n",
+        "",
+    ),
+    (
+        "a tab behind a comma",
+        "out (\"a\", \t1)\n",
+        "",
+    ),
+    (
+        "plus",
+        "out (+1)\n",
+        "",
+    ),
+    (
+        "a point in front",
+        "out (.5)\n",
+        "",
+    ),
+    (
+        "minus alone",
+        "out (-)\n",
+        "",
+    ),
+    (
+        "a letter behind a digit",
+        "out (1a)\n",
+        "",
+    ),
+    (
+        "no comma",
+        "out (\"a\" 1)\n",
+        "",
+    ),
+    (
+        "a semicolon",
+        "out (\"a\"; 1)\n",
+        "",
+    ),
+    (
+        "more behind the tuple",
+        "out (\"a\", 1))\n",
+        "",
+    ),
+    (
+        "a sign that begins no value",
+        "out (@)\n",
+        "",
+    ),
+    (
+        "no name behind a formal",
+        "in (?int )\n",
+        "",
+    ),
 ];

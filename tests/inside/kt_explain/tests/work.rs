@@ -134,6 +134,26 @@ pub(crate) static IN_STEPS: &[Row] = &[
   this word stands alone on its line: take away what stands behind it
 "#,
     ),
+    (
+        "zeros in front of a node's number",
+        "issue w01\n",
+        "",
+    ),
+    (
+        "a place that is no number",
+        "serve s1 w1 x\n",
+        "",
+    ),
+    (
+        "a second line `steps`",
+        "steps\n",
+        "",
+    ),
+    (
+        "a step without its node",
+        "fail\n",
+        "",
+    ),
 ];
 
 /// Fault lines.
@@ -185,6 +205,51 @@ pub(crate) static IN_FAULTS: &[Row] = &[
   ^
   did you mean `check`?
 "#,
+    ),
+    (
+        "a fault line that is none",
+        "crash w1 after 3\n",
+        "",
+    ),
+    (
+        "steps below fault lines",
+        "steps\n",
+        "",
+    ),
+    (
+        "a second line `faults`",
+        "faults\n",
+        "",
+    ),
+    (
+        "zeros in front behind `after`",
+        "fail w1 after 03\n",
+        "",
+    ),
+    (
+        "a command among fault lines",
+        "out (\"b\", 1)\n",
+        "",
+    ),
+    (
+        "a node too great",
+        "fail w100 after 1\n",
+        "",
+    ),
+    (
+        "no node",
+        "fail worker1 after 1\n",
+        "",
+    ),
+    (
+        "`end` with more on its line",
+        "end of it\n",
+        "",
+    ),
+    (
+        "no `end`",
+        "",
+        "",
     ),
 ];
 
