@@ -64,8 +64,8 @@ STEPS = [
     ("issue w1\ndeliver s1 w1",
      "s1 has sent nothing to w1 that is still on its way: write `deliver w1 s1` and `serve s1 w1 0` above this line"),
     ("deliver w1 w1",
-     "messages go between a worker and a shard, the sender stands first: write `deliver w1 s1`, once `issue w1` "
-     "above it has sent something"),
+     "messages go between a worker and a shard, the sender stands first: write `deliver w1 s1`, below an "
+     "`issue w1` that sends one"),
     ("issue w1\ndeliver w1 s1\nserve w1 s1 0",
      "a shard serves a worker, so the shard stands first: write `serve s1 w1 0`"),
     ("issue w1\nissue w1",

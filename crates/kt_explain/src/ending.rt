@@ -40,7 +40,7 @@ fn text_of_no_line_feed(line: &[u8]) -> &'static str {
     if line == b"end".as_slice() {
         "no line feed ends the last line: press Enter at its end"
     } else {
-        "no line feed ends this line: press Enter at its end, and write what is missing below, `end` as the last line"
+        "no line feed ends this line: press Enter at its end, and go on with the scenario down to `end`"
     }
 }
 

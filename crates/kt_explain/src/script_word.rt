@@ -124,10 +124,10 @@ fn text_of_work(case: &Case<'_>, word: &[u8], rest: &[u8]) -> Option<&'static st
             )
         }
         WorkKind::Steps if is_among(word, STEP_WORDS) => {
-            Some("a line `steps` stands above the first step: write it above this line")
+            Some("a line `steps` must stand above the first step: write it above this line")
         }
         WorkKind::Faults if is_fault_word => {
-            Some("a line `faults` stands above the first fault line: write it above this line")
+            Some("a line `faults` must stand above the first fault line: write it above this line")
         }
         WorkKind::Faults if is_among(word, STEP_WORDS) => { Some(STEP_OF_REPLAY) }
         _ => None,

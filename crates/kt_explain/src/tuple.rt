@@ -27,7 +27,7 @@ const OPEN_STR: &str =
     "this quote opens a str, and none closes it: write `\"` where the str ends (`\\\"` does not close it)";
 
 const NO_ESCAPE: &str =
-    "after `\\` only `\"` or `\\` may stand, a str has no line break: take both away, or write `\\\\` for a backslash";
+    "`\\` and this are no escape: take both away (a str has no line break), or write `\\\\` for a backslash";
 
 const TAB_IN_STR: &str = "a tab, shown as `\\t`: a str holds no tab, write a space in its place";
 
@@ -61,10 +61,11 @@ fn behind_opening(text: &[u8]) -> Result<&[u8], Finding<'_>> {
             "an empty tuple: write at least one value in it, as in `(1)`",
         )),
         Some((b'(', rest)) => Ok(rest),
-        Some((b' ', _)) => Err(Finding::said(
+        Some((b' ' | b'\t', _)) => Err(Finding::said(
             text,
             "one space is enough before `(`: take this one away",
         )),
+        Some((0..=31 | 127..=255, _)) => Err(Finding::new(text, Reason::of_foreign(text))),
         _ => Err(Finding::said(text, NO_TUPLE)),
     }
 }
@@ -201,13 +202,13 @@ fn behind_separator(text: &[u8]) -> Result<Option<&[u8]>, Finding<'_>> {
             Ok(next) => Ok(Some(next)),
             Err(_) => Err(Finding::said(rest, "one space stands after a comma: put it here")),
         },
-        Some((b' ', _)) => Err(Finding::said(
+        Some((b' ', [b',' | b')', ..])) => Err(Finding::said(
             text,
-            "no space stands here: write a comma and then a space before the next value, or `)` after the last one",
+            "no space stands before a comma or `)`: take it away",
         )),
         Some(_) => Err(Finding::said(
             text,
-            "write a comma and a space here before the next value, or `)` after the last one",
+            "a comma or `)` is missing: write a comma and a space before the next value, or `)` after the last one",
         )),
     }
 }

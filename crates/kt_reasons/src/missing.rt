@@ -3,7 +3,9 @@
 
 use crate::names::{Due, Name, push_steps};
 use crate::request::{Place, Unanswered};
-use crate::voting::{awaited, initiator, is_decided, push_votes, steps_out, steps_to_vote};
+use crate::voting::{
+    awaited, initiator, is_decided, push_vote_steps, push_votes, steps_out, steps_to_vote,
+};
 use kt_core::{Step, World};
 use kt_store::CkptStore;
 use kt_tuple::NodeId;
@@ -30,8 +32,8 @@ pub(crate) fn push_missing<S: CkptStore>(
             "{name} keeps no message back: take this line away; what is on its way arrives by `deliver`"
         ),
         Step::Serve { shard, worker, .. } => push_not_waiting(out, world, shard, worker),
-        Step::Decide { node } | Step::Abandon { node } => {
-            push_nothing_to_decide(out, world, made, node)
+        Step::Decide { .. } | Step::Abandon { .. } => {
+            push_nothing_to_decide(out, world, made, step)
         }
         _ => write!(
             out,
@@ -193,8 +195,9 @@ fn push_nothing_to_decide<S: CkptStore>(
     out: &mut String,
     world: &World<S>,
     made: &[Step],
-    node: NodeId,
+    step: Step,
 ) -> Result<(), AllocError> {
+    let node = step.owner();
     let name = Name(node);
     let Some(ballot) = world.ballot(node) else {
         return write!(
@@ -204,12 +207,13 @@ fn push_nothing_to_decide<S: CkptStore>(
     };
     match initiator(world, node) {
         Some(leader) if ballot.parent().is_some() && !is_decided(made, leader) => {
-            let leader = Name(leader);
+            let began = Name(leader);
             write!(
                 out,
-                "{name} takes part in what {leader} began, which {leader} alone decides: write `decide {leader}` or \
-                 `abandon {leader}` in place of this line"
-            )
+                "{name} takes part in what {began} began, which {began} alone decides: write "
+            )?;
+            push_end(out, world, leader, step)?;
+            out.push_str(" in place of this line")
         }
         _ => {
             write!(out, "that is decided already: write ")?;
@@ -217,4 +221,22 @@ fn push_nothing_to_decide<S: CkptStore>(
             out.push_str(" in place of this line")
         }
     }
+}
+
+/// The steps by which this node decides what it began, the votes first that are missing; or gives it up, where the step
+/// was to do that.
+fn push_end<S: CkptStore>(
+    out: &mut String,
+    world: &World<S>,
+    leader: NodeId,
+    step: Step,
+) -> Result<(), AllocError> {
+    if let Step::Abandon { .. } = step {
+        return push_steps(out, &[Some(Due::once(Step::Abandon { node: leader }))]);
+    }
+    if let Some(voter) = awaited(world, leader) {
+        push_vote_steps(out, world, leader, voter)?;
+        out.push_str(" and then ")?;
+    }
+    push_steps(out, &[Some(Due::once(Step::Decide { node: leader }))])
 }

@@ -105,7 +105,7 @@ fn push_asking<S: CkptStore>(
             NodeId::Worker(_) => "shard",
             NodeId::Shard(_) => "worker",
         };
-        write!(out, ", the like for each {kind} more,")?;
+        write!(out, ", the same for each other {kind},")?;
     }
     Ok(())
 }

@@ -118,15 +118,12 @@ fn push_no_pair<S: CkptStore>(out: &mut String, world: &World<S>) -> Result<(), 
     for from in ALL_NODES {
         for to in ALL_NODES {
             if 0 < world.link_len(from, to) {
-                let (from, to) = (Name(from), Name(to));
-                return write!(
-                    out,
-                    "`deliver {from} {to}`, for which a message is on its way"
-                );
+                let due = Due::deliveries(from, to, 1);
+                return write!(out, "{due}, for which one is on its way");
             }
         }
     }
-    out.push_str("`deliver w1 s1`, once `issue w1` above it has sent something")
+    out.push_str("`deliver w1 s1`, below an `issue w1` that sends one")
 }
 
 /// How many tuples of the shard match what the worker waits for there.
@@ -239,11 +236,10 @@ fn push_undecided_of_down<S: CkptStore>(
     }
     match saving_initiator(world, made) {
         Some(leader) => {
-            let leader = Name(leader);
+            let (began, end) = (Name(leader), end_of(world, leader));
             write!(
                 out,
-                "{name} has saved its state for {leader}, which did not decide yet: write `decide {leader}` or \
-                 `abandon {leader}` above this line"
+                "{name} has saved its state for {began}, which did not decide yet: write {end} above this line"
             )
         }
         None => write!(
@@ -252,6 +248,14 @@ fn push_undecided_of_down<S: CkptStore>(
              above this line"
         ),
     }
+}
+
+/// The step by which this node ends the check that it began: its verdict, or no where votes are missing.
+fn end_of<S: CkptStore>(world: &World<S>, leader: NodeId) -> Due {
+    Due::once(match awaited(world, leader) {
+        Some(_) => Step::Abandon { node: leader },
+        None => Step::Decide { node: leader },
+    })
 }
 
 /// A node that began a check which is not decided yet.
@@ -283,7 +287,7 @@ fn push_unresolved<S: CkptStore>(
         Some(Begun::Check) => [abandon, learn],
         Some(Begun::Rollback) => [abandon, None],
         None => match saving_initiator(world, made) {
-            Some(leader) => [Some(Due::once(Step::Decide { node: leader })), learn],
+            Some(leader) => [Some(end_of(world, leader)), learn],
             None => [None, learn],
         },
     };

@@ -136,8 +136,8 @@ pub(crate) fn push_votes<S: CkptStore>(
     let mut count = 0usize;
     for other in ALL_NODES {
         if ballot.awaits(other) {
-            let other = Name(other);
-            write!(out, " {other}")?;
+            let (other, separator) = (Name(other), if count == 0 { "" } else { "," });
+            write!(out, "{separator} {other}")?;
             count = count.saturating_add(1);
         }
     }
@@ -145,7 +145,7 @@ pub(crate) fn push_votes<S: CkptStore>(
     push_vote_steps(out, world, node, first)?;
     out.push_str(" above this line")?;
     if count > 1 {
-        out.push_str(", and the like for each")?;
+        out.push_str(", the same for each")?;
     }
     Ok(())
 }

@@ -1,6 +1,7 @@
 //! Steps that a world refuses, with what is said of them. What it says to write is written: no step is refused then.
 
-use crate::rows::{OF_CHECKS, OF_FAILURES, OF_ONE_SHARD, OF_TWO_SHARDS, Row};
+use crate::recovery::{OF_CHECKS, OF_FAILURES};
+use crate::rows::{OF_ONE_SHARD, OF_TWO_SHARDS, Row};
 use kt_core::{Step, StepError, World};
 use kt_reasons::explain_step;
 use kt_store::MemStore;

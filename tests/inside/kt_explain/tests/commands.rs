@@ -7,8 +7,8 @@ pub(crate) static IN_COMMANDS: &[Row] = &[
         "minus",
         "set x = x - 1\n",
         r#"  set x = x - 1
-           ^
-  `set x = y + K` is the only form: for minus write `+ -`, as in `set x = x + -1`
+            ^
+  `set` only adds: for minus write `+ -` and the int, as in `set x = x + -1`
 "#,
     ),
     (
@@ -16,7 +16,7 @@ pub(crate) static IN_COMMANDS: &[Row] = &[
         "set x = 5\n",
         r#"  set x = 5
           ^
-  `set x = y + K` is the only form: no constant can be set, but `in` can bind one out of a tuple
+  `set` only adds to a name: for `set x = 5` write `out ("k", 5)` and below it `in ("k", ?int x)`
 "#,
     ),
     (
@@ -24,7 +24,7 @@ pub(crate) static IN_COMMANDS: &[Row] = &[
         "set x = x+1\n",
         r#"  set x = x+1
            ^
-  one space stands before and behind `+`, as in `set x = y + 1`
+  write one space before `+` and one after it, as in `set x = x + 1`
 "#,
     ),
     (
@@ -32,7 +32,7 @@ pub(crate) static IN_COMMANDS: &[Row] = &[
         "set x=x + 1\n",
         r#"  set x=x + 1
        ^
-  ` = ` is wanted here, with one space before and behind `=`
+  `=` is wanted here, with one space before it and one after it, as in `set x = x + 1`
 "#,
     ),
     (
@@ -40,7 +40,7 @@ pub(crate) static IN_COMMANDS: &[Row] = &[
         "set y = x\n",
         r#"  set y = x
            ^
-  `set x = y + K` is the only form: write ` + 0` behind it where x is to be y
+  `set` always adds an int: to copy a value write ` + 0` at the end of the line, as in `set y = x + 0`
 "#,
     ),
     (
@@ -48,7 +48,7 @@ pub(crate) static IN_COMMANDS: &[Row] = &[
         "set y = x + x\n",
         r#"  set y = x + x
               ^
-  K of `set x = y + K` is an int, as 1 or -1: no name can stand here
+  no command adds two names: write an int here, as in `set y = x + 1`
 "#,
     ),
     (
@@ -56,7 +56,7 @@ pub(crate) static IN_COMMANDS: &[Row] = &[
         "set Y = x + 1\n",
         r#"  set Y = x + 1
       ^
-  a name begins with a small letter, a to z
+  a name begins with a small letter, a to z: write it so, as `x1`
 "#,
     ),
     (
@@ -72,7 +72,7 @@ pub(crate) static IN_COMMANDS: &[Row] = &[
         "unless 0\n",
         r#"  unless 0
          ^
-  the form is `unless N`, N from 1 to 200, with no zeros in front
+  `unless N` skips the next N commands where the last answer was none: write 1 or more, or take this line away
 "#,
     ),
     (
@@ -80,47 +80,71 @@ pub(crate) static IN_COMMANDS: &[Row] = &[
         "unless 201\n",
         r#"  unless 201
          ^
-  the form is `unless N`, N from 1 to 200, with no zeros in front
+  a script has at most 200 commands: write `unless 200`, which skips all that follow where the last answer was none
 "#,
     ),
     (
         "`set` alone",
         "set\n",
-        "",
+        r#"  set
+     ^
+  the form is `set x = y + K`, K an int, as in `set x = x + 1`
+"#,
     ),
     (
         "no `=`",
         "set y x + 1\n",
-        "",
+        r#"  set y x + 1
+        ^
+  `=` is wanted here, with one space before it and one after it, as in `set x = x + 1`
+"#,
     ),
     (
         "times",
         "set y = x * 2\n",
-        "",
+        r#"  set y = x * 2
+            ^
+  `set` only adds: write ` + ` and an int here, as in `set x = y + 1`
+"#,
     ),
     (
         "a str is added",
         "set y = x + \"a\"\n",
-        "",
+        r#"  set y = x + "a"
+              ^
+  write an int here, as `1` or `-1`: `set` adds ints alone
+"#,
     ),
     (
         "zeros in front of what is added",
         "set y = x + 01\n",
-        "",
+        r#"  set y = x + 01
+              ^
+  an int has no zeros in front: take them away
+"#,
     ),
     (
         "two ints are added",
         "set y = x + 1 + 1\n",
-        "",
+        r#"  set y = x + 1 + 1
+                ^
+  `set` adds one int, with which the line ends: take away what comes after it
+"#,
     ),
     (
         "`unless` alone",
         "unless\n",
-        "",
+        r#"  unless
+        ^
+  `unless N` skips the next N commands where the last answer was none: write N, from 1 to 200, with no zeros in front
+"#,
     ),
     (
         "zeros in front behind `unless`",
         "unless 01\n",
-        "",
+        r#"  unless 01
+         ^
+  `unless N` skips the next N commands where the last answer was none: write N, from 1 to 200, with no zeros in front
+"#,
     ),
 ];

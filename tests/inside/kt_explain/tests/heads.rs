@@ -8,7 +8,7 @@ pub(crate) static IN_TITLE: &[Row] = &[
         "linda-kt 1\r\n",
         r#"  linda-kt 1\r
             ^
-  the line ends with CR LF: lines end with LF alone, so save the text with Unix line ends
+  the line ends with CR LF, the CR is shown as `\r`: save the text with Unix line ends, LF alone
 "#,
     ),
     (
@@ -16,7 +16,7 @@ pub(crate) static IN_TITLE: &[Row] = &[
         "\u{feff}linda-kt 1\n",
         r#"  \xef\xbb\xbflinda-kt 1
   ^
-  a byte order mark stands before line 1: save the text as ASCII, without the mark
+  a byte order mark, shown as `\xef\xbb\xbf`, stands in front: save the text as ASCII, without the mark
 "#,
     ),
     (
@@ -24,7 +24,7 @@ pub(crate) static IN_TITLE: &[Row] = &[
         "shards 1\n",
         r#"  shards 1
   ^
-  `linda-kt 1` must stand first: write it above this line
+  a scenario begins with the line `linda-kt 1`: write it above this line
 "#,
     ),
     (
@@ -46,7 +46,7 @@ pub(crate) static IN_TITLE: &[Row] = &[
     (
         "nothing",
         "",
-        r#"  nothing was read: the scenario comes on standard input, as in `linda_kt replay < FILE`
+        r#"  the input is empty: give a file that holds a scenario, whose first line is `linda-kt 1`
 "#,
     ),
     (
@@ -54,7 +54,7 @@ pub(crate) static IN_TITLE: &[Row] = &[
         "survivors 2\n",
         r#"  survivors 2
   ^
-  this is a report: give the scenario that it reports of, or a journal of it
+  this is a report, which a command wrote: give the scenario instead, with its first line `linda-kt 1`
 "#,
     ),
     (
@@ -62,7 +62,7 @@ pub(crate) static IN_TITLE: &[Row] = &[
         "SQLite format 3\0\x10\0\x01\x01\n",
         r#"  SQLite format 3\x00\x10\x00\x01\x01
   ^
-  this is a database: give it to `--store`, and a scenario to standard input
+  this is a database, no scenario: to go on from it, type `linda_kt resume --store DATABASE < SCENARIO`
 "#,
     ),
     (
@@ -78,7 +78,7 @@ pub(crate) static IN_TITLE: &[Row] = &[
         "SQLite format 3\0\x10\0\x01\x01",
         r#"  SQLite format 3\x00\x10\x00\x01\x01
   ^
-  this is a database: give it to `--store`, and a scenario to standard input
+  this is a database, no scenario: to go on from it, type `linda_kt resume --store DATABASE < SCENARIO`
 "#,
     ),
     (
@@ -86,19 +86,20 @@ pub(crate) static IN_TITLE: &[Row] = &[
         "linda-kt 1\rshards 1\r",
         r#"  linda-kt 1\rshards 1\r
             ^
-  the lines end with CR: save the text with Unix line ends, LF alone
+  the lines end with CR, shown as `\r`: save the text with Unix line ends, LF alone
 "#,
     ),
     (
         "remarks alone",
         "# nothing\n",
-        r#"  there are remarks alone: `linda-kt 1` is wanted
+        r#"  the text ends too early: write `linda-kt 1` as line 2, below the remarks, and the scenario below it
 "#,
     ),
     (
         "an empty line above all",
         "\n",
-        "",
+        r#"  line 1 is empty: take it away, or write `#` on it
+"#,
     ),
 ];
 
@@ -109,13 +110,16 @@ pub(crate) static IN_TITLE_OF_RUN: &[Row] = &[
         "linda-kt 1\r\n",
     r#"  linda-kt 1\r
             ^
-  the line ends with CR LF: lines end with LF alone, so save the text with Unix line ends
+  the line ends with CR LF, the CR is shown as `\r`: save the text with Unix line ends, LF alone
 "#,
     ),
     (
         "a database given to run",
         "SQLite format 3\0\n",
-        "",
+        r#"  SQLite format 3\x00
+  ^
+  this is a database, no scenario: to go on from it, type `linda_kt run --resume --store DATABASE < SCENARIO`
+"#,
     ),
 ];
 
@@ -124,7 +128,8 @@ pub(crate) static IN_SHARDS_OF_RUN: &[Row] = &[
     (
         "the text ends, in run",
         "",
-        "",
+        r#"  the text ends too early: write `shards 1` as line 2, then `worker`, its commands, `faults` and `end`
+"#,
     ),
 ];
 
@@ -133,7 +138,8 @@ pub(crate) static IN_WORKERS_OF_RUN: &[Row] = &[
     (
         "the text ends, in run",
         "",
-        "",
+        r#"  the text ends too early: write `worker` as line 3, then its commands, `faults` and `end`
+"#,
     ),
 ];
 
@@ -144,7 +150,7 @@ pub(crate) static IN_SHARDS: &[Row] = &[
         "worker\n",
         r#"  worker
   ^
-  `shards N` is wanted here, N from 1 to 8: write it behind `linda-kt 1`
+  the second line says how many shards hold the tuples, 1 to 8: write `shards 1` above this line
 "#,
     ),
     (
@@ -160,27 +166,30 @@ pub(crate) static IN_SHARDS: &[Row] = &[
         "shards 9\n",
         r#"  shards 9
          ^
-  the form is `shards N`, N from 1 to 8, with no zeros in front
+  the form is `shards N`, N from 1 to 8 with no zeros in front, as in `shards 1`
 "#,
     ),
     (
         "no number, but a word",
         "shards two\n",
         r#"  shards two
-        ^
-  the form is `shards N`, N from 1 to 8, with no zeros in front
+         ^
+  the form is `shards N`, N from 1 to 8 with no zeros in front, as in `shards 1`
 "#,
     ),
     (
         "the text ends",
         "",
-        r#"  `shards N` is wanted here, N from 1 to 8: write it behind `linda-kt 1`
+        r#"  the text ends too early: write `shards 1` as line 2, then `worker`, its commands, `steps` and `end`
 "#,
     ),
     (
         "two shards in words",
         "shards: 2\n",
-        "",
+        r#"  shards: 2
+        ^
+  the form is `shards N`, N from 1 to 8 with no zeros in front, as in `shards 1`
+"#,
     ),
 ];
 
@@ -196,7 +205,7 @@ pub(crate) static IN_WORKERS: &[Row] = &[
         "steps\n",
         r#"  steps
   ^
-  a scenario has at least one worker: write `worker` and its commands above this line
+  a scenario has at least one worker: write a line `worker` above this one, and its commands below `worker`
 "#,
     ),
     (
@@ -204,32 +213,38 @@ pub(crate) static IN_WORKERS: &[Row] = &[
         "out (\"a\", 1)\n",
         r#"  out ("a", 1)
   ^
-  `worker` stands above a worker's commands: write it above this line
+  commands stand below a line `worker`: write that line above this one
 "#,
     ),
     (
         "`worker w1`",
         "worker w1\n",
         r#"  worker w1
-        ^
-  this word stands alone on its line: take away what stands behind it
+         ^
+  the first word of this line stands alone: take away what comes after it
 "#,
     ),
     (
         "the text ends",
         "",
-        r#"  `worker` is missing: a scenario has at least one worker
+        r#"  the text ends too early: write `worker` as line 3, then its commands, `steps` and `end`
 "#,
     ),
     (
         "no word of a script",
         "thread 1\n",
-        "",
+        r#"  thread 1
+  ^
+  a line `worker` is wanted here: write it above this one, and below it commands as `out ("a", 1)`
+"#,
     ),
     (
         "`workers`",
         "workers\n",
-        "",
+        r#"  workers
+  ^
+  did you mean `worker`?
+"#,
     ),
 ];
 
@@ -238,14 +253,15 @@ pub(crate) static BEHIND_END: &[Row] = &[
     (
         "an empty line at the end",
         "\n",
-        "  \n  ^\n  an empty line behind `end`: take it away\n",
+        r#"  line 6 is empty and stands below `end`, the last line: take it away
+"#,
     ),
     (
         "a second scenario",
         "linda-kt 1\n",
         r#"  linda-kt 1
   ^
-  a second scenario: a text holds one alone, which ends with `end`
+  a second scenario begins here: put it into a text of its own, `end` is the last line
 "#,
     ),
     (
@@ -253,7 +269,7 @@ pub(crate) static BEHIND_END: &[Row] = &[
         "issue w1\n",
         r#"  issue w1
   ^
-  `end` is the last line: take away what stands behind it
+  `end` is the last line: take this one away and all below it, or move them above `end`
 "#,
     ),
 ];

@@ -8,7 +8,7 @@ pub(crate) static IN_SCRIPT: &[Row] = &[
         "out\t(\"a\", 1)\n",
         r#"  out\t("a", 1)
      ^
-  a tab: write one space in its place
+  a tab, shown as `\t`: write one space in its place
 "#,
     ),
     (
@@ -16,20 +16,21 @@ pub(crate) static IN_SCRIPT: &[Row] = &[
         "  out (\"a\", 1)\n",
         r#"    out ("a", 1)
   ^
-  a word is the first thing on its line: take away the spaces before it
+  a line begins with its first word: take away the spaces or tabs before it
 "#,
     ),
     (
         "an empty line",
         "\n",
-        "  \n  ^\n  an empty line: take it away, or write `#` on it\n",
+        r#"  line 6 is empty: take it away, or write `#` on it
+"#,
     ),
     (
         "a remark behind a command",
         "set y = x + 1 # more\n",
         r#"  set y = x + 1 # more
                 ^
-  a remark stands on a line of its own, with `#` as the first byte
+  a remark needs a line of its own, which begins with `#`: write it above this line
 "#,
     ),
     (
@@ -37,7 +38,7 @@ pub(crate) static IN_SCRIPT: &[Row] = &[
         " # more\n",
         r#"   # more
   ^
-  `#` must be the first byte of a remark's line: take away the spaces before it
+  a remark's line begins with `#`: take away the spaces or tabs before it
 "#,
     ),
     (
@@ -61,7 +62,7 @@ pub(crate) static IN_SCRIPT: &[Row] = &[
         "faults\n",
         r#"  faults
   ^
-  `faults` is for `linda_kt run`: give the scenario to it, or write `steps` and steps
+  `faults` is for `linda_kt run`: type `linda_kt run < FILE`; for `replay` write `steps` here, and steps below
 "#,
     ),
     (
@@ -69,7 +70,7 @@ pub(crate) static IN_SCRIPT: &[Row] = &[
         "issue w1\n",
         r#"  issue w1
   ^
-  `steps` is wanted before the first step: write it above this line
+  a line `steps` must stand above the first step: write it above this line
 "#,
     ),
     (
@@ -77,7 +78,7 @@ pub(crate) static IN_SCRIPT: &[Row] = &[
         "end\n",
         r#"  end
   ^
-  `steps` is wanted before `end`, even where no step stands behind it
+  a line `steps` must stand above `end`, even with no step between: write it above this line
 "#,
     ),
     (
@@ -85,7 +86,7 @@ pub(crate) static IN_SCRIPT: &[Row] = &[
         "eval (\"a\")\n",
         r#"  eval ("a")
   ^
-  one of these is wanted here: out, in, rd, inp, rdp, set, unless, worker, steps
+  there is no `eval`: write one more worker for it, a line `worker` and commands, below the commands of this one
 "#,
     ),
     (
@@ -93,7 +94,7 @@ pub(crate) static IN_SCRIPT: &[Row] = &[
         "out\n",
         r#"  out
      ^
-  a tuple or template is wanted here, as in `out ("a", 1)` and `in ("a", ?int)`
+  a tuple or template in parentheses is wanted here, as in `out ("a", 1)` and `in ("a", ?int)`
 "#,
     ),
     (
@@ -109,13 +110,13 @@ pub(crate) static IN_SCRIPT: &[Row] = &[
         "set y  = x + 1\n",
         r#"  set y  = x + 1
         ^
-  one space stands between two words: take this one away
+  one space is enough between two words: take this one away
 "#,
     ),
     (
         "the text ends",
         "",
-        r#"  `steps` and `end` are missing: write both at the end
+        r#"  the text ends too early: write `steps` as line 6, then steps or none, and `end`
 "#,
     ),
     (
@@ -123,53 +124,77 @@ pub(crate) static IN_SCRIPT: &[Row] = &[
         "out (\"a\", 1)",
         r#"  out ("a", 1)
               ^
-  the last line has no line feed: put one at its end
+  no line feed ends this line: press Enter at its end, and go on with the scenario down to `end`
 "#,
     ),
     (
         "a line of spaces",
         "   \n",
-        "",
+        "     \n  ^\n  line 6 has spaces or tabs alone: take it away, or write `#` as its first byte\n",
     ),
     (
         "`take`, a word of another space",
         "take (\"a\", ?int)\n",
-        "",
+        r#"  take ("a", ?int)
+  ^
+  did you mean `in`?
+"#,
     ),
     (
         "`Get`, a word of another space",
         "Get (\"a\", ?int)\n",
-        "",
+        r#"  Get ("a", ?int)
+  ^
+  did you mean `in`?
+"#,
     ),
     (
         "another word that is none",
         "frob (\"a\")\n",
-        "",
+        r#"  frob ("a")
+  no command begins so. `out ("a", 1)` puts a tuple, `in ("a", ?int)` takes one, `rd ("a", ?int)` reads one;
+  `inp` and `rdp` do so without waiting; `set x = x + 1`, `unless 1`; `worker` and `steps` begin the next part
+"#,
     ),
     (
         "a colon behind the verb",
         "out: (\"a\", 1)\n",
-        "",
+        r#"  out: ("a", 1)
+     ^
+  a tuple or template in parentheses is wanted here, as in `out ("a", 1)` and `in ("a", ?int)`
+"#,
     ),
     (
         "`steps` with more on its line",
         "steps 1\n",
-        "",
+        r#"  steps 1
+        ^
+  the first word of this line stands alone: take away what comes after it
+"#,
     ),
     (
         "a control byte",
         "out\x01 (\"a\", 1)\n",
-        "",
+        r#"  out\x01 ("a", 1)
+     ^
+  a control byte, shown as `\x..`: take it away
+"#,
     ),
     (
         "a word that is no ASCII",
         "\u{f6}ut (\"a\", 1)\n",
-        "",
+        r#"  \xc3\xb6ut ("a", 1)
+  ^
+  no ASCII character, its bytes are shown as `\x..`: write letters, digits and signs of ASCII alone
+"#,
     ),
     (
         "CR within the line",
         "out \r (\"a\", 1)\n",
-        "",
+        r#"  out \r ("a", 1)
+      ^
+  a carriage return, shown as `\r`: take it away, lines end with LF alone
+"#,
     ),
 ];
 
@@ -180,7 +205,7 @@ pub(crate) static IN_SCRIPT_OF_RUN: &[Row] = &[
         "steps\n",
         r#"  steps
   ^
-  `steps` is for `linda_kt replay`: give the scenario to it, or write `faults` and fault lines
+  `steps` is for `linda_kt replay`: type `linda_kt replay < FILE`; for `run` write `faults` here, and no steps
 "#,
     ),
     (
@@ -188,7 +213,7 @@ pub(crate) static IN_SCRIPT_OF_RUN: &[Row] = &[
         "end\n",
         r#"  end
   ^
-  `faults` is wanted before `end`, even where no fault line stands behind it
+  a line `faults` must stand above `end`, even with no fault line between: write it above this line
 "#,
     ),
     (
@@ -196,7 +221,7 @@ pub(crate) static IN_SCRIPT_OF_RUN: &[Row] = &[
         "fail w1 after 3\n",
         r#"  fail w1 after 3
   ^
-  `faults` is wanted before the first fault line: write it above this line
+  a line `faults` must stand above the first fault line: write it above this line
 "#,
     ),
     (
@@ -204,19 +229,22 @@ pub(crate) static IN_SCRIPT_OF_RUN: &[Row] = &[
         "issue w1\n",
         r#"  issue w1
   ^
-  steps are for `linda_kt replay`: here `faults` is wanted, and fault lines behind it
+  a step is for `linda_kt replay`, below `steps`; for `run` write `faults` here, then lines as `fail w1 after 3`
 "#,
     ),
     (
         "the text ends",
         "",
-        r#"  `faults` and `end` are missing: write both at the end
+        r#"  the text ends too early: write `faults` as line 6, then fault lines or none, and `end`
 "#,
     ),
     (
         "a word that is none",
         "frob (\"a\")\n",
-        "",
+        r#"  frob ("a")
+  no command begins so. `out ("a", 1)` puts a tuple, `in ("a", ?int)` takes one, `rd ("a", ?int)` reads one;
+  `inp` and `rdp` do so without waiting; `set x = x + 1`, `unless 1`; `worker` and `faults` begin the next part
+"#,
     ),
 ];
 
@@ -226,7 +254,7 @@ pub(crate) static IN_JOURNAL: &[Row] = &[(
     "steps\n",
     r#"  steps
   ^
-  this is a journal: replay it, with `linda_kt replay`
+  this is a journal, the steps that a run made: type `linda_kt replay < FILE`
 "#,
 )];
 
@@ -236,7 +264,7 @@ pub(crate) static IN_RESUMED: &[Row] = &[(
     "steps\n",
     r#"  steps
   ^
-  this is a journal of a run that went on from a store: give it to `linda_kt resume`
+  a journal of a run that went on: type `linda_kt resume --store COPY < FILE`, COPY its store from before the run
 "#,
 )];
 
@@ -247,7 +275,7 @@ pub(crate) static IN_NAMES: &[Row] = &[
         "out (\"a\", y)\n",
         r#"  out ("a", y)
             ^
-  nothing has bound this name yet: bind it in a command above, as in `in ("a", ?int x)`
+  no command above binds this name: write one above, as `in ("a", ?int x)`; a str stands in quotes, as `"x"`
 "#,
     ),
     (
@@ -255,7 +283,7 @@ pub(crate) static IN_NAMES: &[Row] = &[
         "in (?int x, x)\n",
         r#"  in (?int x, x)
               ^
-  nothing has bound this name yet: bind it in a command above, as in `in ("a", ?int x)`
+  this name has a value only below this line: use it there, or write a new formal here, as `?int y`
 "#,
     ),
     (
@@ -279,7 +307,7 @@ pub(crate) static IN_NAMES: &[Row] = &[
         "set n = s + 1\n",
         r#"  set n = s + 1
           ^
-  this name stands for strs, and `set` is for ints alone: take another name
+  `set` adds to an int, and this name stands for strs: write a name that was bound by `?int`
 "#,
     ),
     (
@@ -287,7 +315,7 @@ pub(crate) static IN_NAMES: &[Row] = &[
         "set x = y + 1\n",
         r#"  set x = y + 1
           ^
-  nothing has bound this name yet: bind it in a command above, as in `in ("a", ?int x)`
+  no command above binds this name: write one above that binds it to an int, as `in ("a", ?int x)`
 "#,
     ),
     (
@@ -295,12 +323,15 @@ pub(crate) static IN_NAMES: &[Row] = &[
         "out (tru)\n",
         r#"  out (tru)
        ^
-  nothing has bound this name yet: bind it in a command above, as in `in ("a", ?int x)`
+  no command above binds this name: did you mean `true`?
 "#,
     ),
     (
         "a str that is set",
         "set s = n + 1\n",
-        "",
+        r#"  set s = n + 1
+      ^
+  this name stands for strs since it was first bound: take another name here
+"#,
     ),
 ];

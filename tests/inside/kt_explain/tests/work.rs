@@ -16,7 +16,7 @@ pub(crate) static IN_STEPS: &[Row] = &[
         "issue worker1\n",
         r#"  issue worker1
         ^
-  a node is wanted here: `w1`, `w2` and so on are the workers, `s1`, `s2` and so on the shards
+  write a node here: `w1`, `w2` and so on are the workers, `s1`, `s2` and so on the shards
 "#,
     ),
     (
@@ -32,7 +32,7 @@ pub(crate) static IN_STEPS: &[Row] = &[
         "issue w100\n",
         r#"  issue w100
         ^
-  no scenario has such a node: workers go up to `w16`, shards to `s8`
+  there is no such node: write one of `w1` and `s1`, which this scenario has
 "#,
     ),
     (
@@ -40,7 +40,7 @@ pub(crate) static IN_STEPS: &[Row] = &[
         "serve s1 w1\n",
         r#"  serve s1 w1
              ^
-  the form is `serve SHARD WORKER PLACE`, as in `serve s1 w1 0`: PLACE counts the tuples that match, from 0
+  the form is `serve SHARD WORKER PLACE`, as in `serve s1 w1 0`: 0 picks the oldest tuple that matches
 "#,
     ),
     (
@@ -48,7 +48,7 @@ pub(crate) static IN_STEPS: &[Row] = &[
         "serve s1 w1 100000\n",
         r#"  serve s1 w1 100000
               ^
-  PLACE, the last number of `serve`, is from 0 to 99999
+  the last number picks one of the tuples that match, 0 the oldest: write 0, or one up to 99999
 "#,
     ),
     (
@@ -56,15 +56,15 @@ pub(crate) static IN_STEPS: &[Row] = &[
         "deliver w1\n",
         r#"  deliver w1
             ^
-  the form is `deliver SENDER RECEIVER`, as in `deliver w1 s1`
+  the form is `deliver SENDER RECEIVER`, one a worker and one a shard, as in `deliver w1 s1`
 "#,
     ),
     (
         "two nodes for one",
         "issue w1 s1\n",
         r#"  issue w1 s1
-          ^
-  the form is `issue NODE`, as in `issue w1`
+           ^
+  the form is `issue NODE`, with one node alone, as in `issue w1`
 "#,
     ),
     (
@@ -72,7 +72,7 @@ pub(crate) static IN_STEPS: &[Row] = &[
         "issue w1 # it asks\n",
         r#"  issue w1 # it asks
            ^
-  a remark stands on a line of its own, with `#` as the first byte
+  a remark needs a line of its own, which begins with `#`: write it above this line
 "#,
     ),
     (
@@ -84,8 +84,8 @@ pub(crate) static IN_STEPS: &[Row] = &[
         "a fault line among steps",
         "fail w1 after 3\n",
         r#"  fail w1 after 3
-         ^
-  `after` is for fault lines, which `linda_kt run` takes: a step has the node alone
+          ^
+  a step has the node alone, as `fail w1`: take this away; `after` is for the fault lines of `linda_kt run`
 "#,
     ),
     (
@@ -93,7 +93,7 @@ pub(crate) static IN_STEPS: &[Row] = &[
         "out (\"b\", 1)\n",
         r#"  out ("b", 1)
   ^
-  workers and commands stand above `steps` or `faults`: put this line there
+  workers and commands stand above the line `steps`: move this line up, below the `worker` that it belongs to
 "#,
     ),
     (
@@ -101,21 +101,21 @@ pub(crate) static IN_STEPS: &[Row] = &[
         "faults\n",
         r#"  faults
   ^
-  a scenario has one line `steps` or one line `faults`, and not both: take this one away
+  fault lines are for `linda_kt run`, and this scenario has steps: take this line away, and fault lines below it
 "#,
     ),
     (
         "a step that is none",
         "commit w1\n",
         r#"  commit w1
-  ^
-  one of these is wanted here: issue, repeat, deliver, take, serve, check, decide, abandon, learn, fail, restart, end
+  no step begins so. Asking: `issue w1`, `deliver w1 s1`, `serve s1 w1 0`, `deliver s1 w1`, once more `repeat w1`.
+  Saving: `check w1`, `decide w1`, `learn w1`; `abandon w1`. Failing: `fail w1`, `restart w1`. Or `take w1`, `end`
 "#,
     ),
     (
         "no `end`",
         "",
-        r#"  `end` is missing: write it as the last line
+        r#"  the text ends too early: write `end` as line 7, the last one
 "#,
     ),
     (
@@ -123,36 +123,48 @@ pub(crate) static IN_STEPS: &[Row] = &[
         "end",
         r#"  end
      ^
-  the last line has no line feed: put one at its end
+  no line feed ends the last line: press Enter at its end
 "#,
     ),
     (
         "`end` with more on its line",
         "end of it\n",
         r#"  end of it
-     ^
-  this word stands alone on its line: take away what stands behind it
+      ^
+  the first word of this line stands alone: take away what comes after it
 "#,
     ),
     (
         "zeros in front of a node's number",
         "issue w01\n",
-        "",
+        r#"  issue w01
+        ^
+  a node's number has no zeros in front, as in `w1`
+"#,
     ),
     (
         "a place that is no number",
         "serve s1 w1 x\n",
-        "",
+        r#"  serve s1 w1 x
+              ^
+  the form is `serve SHARD WORKER PLACE`, as in `serve s1 w1 0`: 0 picks the oldest tuple that matches
+"#,
     ),
     (
         "a second line `steps`",
         "steps\n",
-        "",
+        r#"  steps
+  ^
+  this word stands on a line above already: take this line away
+"#,
     ),
     (
         "a step without its node",
         "fail\n",
-        "",
+        r#"  fail
+      ^
+  the form is `fail NODE`, with one node alone, as in `fail w1`
+"#,
     ),
 ];
 
@@ -163,7 +175,7 @@ pub(crate) static IN_FAULTS: &[Row] = &[
         "fail s1\n",
         r#"  fail s1
          ^
-  the forms are `fail NODE after N` and `check NODE after N`, as in `fail s1 after 3`
+  the form is `fail s1 after 3` or `check s1 after 3`: 3 says how many steps of its own the node makes first
 "#,
     ),
     (
@@ -171,7 +183,7 @@ pub(crate) static IN_FAULTS: &[Row] = &[
         "fail w1 after 100001\n",
         r#"  fail w1 after 100001
                 ^
-  N behind `after` is from 0 to 100000, with no zeros in front
+  the number says how many steps of its own the node makes first: write one from 0 to 100000, with no zeros in front
 "#,
     ),
     (
@@ -179,15 +191,15 @@ pub(crate) static IN_FAULTS: &[Row] = &[
         "check w2 after 1\n",
         r#"  check w2 after 1
         ^
-  there is no such node: this scenario has `w1` and `s1`
+  there is no such node: write one of `w1` and `s1`, which this scenario has
 "#,
     ),
     (
         "a word in place of `after`",
         "fail w1 at 3\n",
         r#"  fail w1 at 3
-         ^
-  the forms are `fail NODE after N` and `check NODE after N`, as in `fail s1 after 3`
+          ^
+  the form is `fail s1 after 3` or `check s1 after 3`: 3 says how many steps of its own the node makes first
 "#,
     ),
     (
@@ -195,7 +207,7 @@ pub(crate) static IN_FAULTS: &[Row] = &[
         "issue w1\n",
         r#"  issue w1
   ^
-  steps are for `linda_kt replay`: behind `faults` stand `fail NODE after N` and `check NODE after N`
+  steps are for `linda_kt replay`, below `steps` in place of `faults`; here write `fail w1 after 3` or the like
 "#,
     ),
     (
@@ -209,47 +221,72 @@ pub(crate) static IN_FAULTS: &[Row] = &[
     (
         "a fault line that is none",
         "crash w1 after 3\n",
-        "",
+        r#"  crash w1 after 3
+  ^
+  no fault line begins so: write one as `fail w1 after 3` or `check w1 after 3`, or `end` as the last line
+"#,
     ),
     (
         "steps below fault lines",
         "steps\n",
-        "",
+        r#"  steps
+  ^
+  steps are for `linda_kt replay`, and this scenario has fault lines: take this line away, and steps below it
+"#,
     ),
     (
         "a second line `faults`",
         "faults\n",
-        "",
+        r#"  faults
+  ^
+  this word stands on a line above already: take this line away
+"#,
     ),
     (
         "zeros in front behind `after`",
         "fail w1 after 03\n",
-        "",
+        r#"  fail w1 after 03
+                ^
+  the number says how many steps of its own the node makes first: write one from 0 to 100000, with no zeros in front
+"#,
     ),
     (
         "a command among fault lines",
         "out (\"b\", 1)\n",
-        "",
+        r#"  out ("b", 1)
+  ^
+  workers and commands stand above the line `faults`: move this line up, below the `worker` that it belongs to
+"#,
     ),
     (
         "a node too great",
         "fail w100 after 1\n",
-        "",
+        r#"  fail w100 after 1
+       ^
+  there is no such node: write one of `w1` and `s1`, which this scenario has
+"#,
     ),
     (
         "no node",
         "fail worker1 after 1\n",
-        "",
+        r#"  fail worker1 after 1
+       ^
+  write a node here: `w1`, `w2` and so on are the workers, `s1`, `s2` and so on the shards
+"#,
     ),
     (
         "`end` with more on its line",
         "end of it\n",
-        "",
+        r#"  end of it
+      ^
+  the first word of this line stands alone: take away what comes after it
+"#,
     ),
     (
         "no `end`",
         "",
-        "",
+        r#"  the text ends too early: write `end` as line 7, the last one
+"#,
     ),
 ];
 
@@ -259,6 +296,6 @@ pub(crate) static IN_MORE_NODES: &[Row] = &[(
     "fail s4 after 0\n",
     r#"  fail s4 after 0
        ^
-  there is no such node: this scenario has `w1` to `w2` and `s1` to `s3`
+  there is no such node: write one of `w1` to `w2` and `s1` to `s3`, which this scenario has
 "#,
 )];
