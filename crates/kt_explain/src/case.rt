@@ -1,5 +1,6 @@
 //! A line that has a fault, with what stands above it.
-//! Cited by ending.rt, explain.rt, fault_word.rt, header.rt, limit.rt, script_word.rt, step_word.rt, variable.rt.
+//! Cited by ending.rt, explain.rt, fault_word.rt, finding.rt, header.rt, limit.rt, script_word.rt, step_word.rt,
+//!   variable.rt.
 
 use crate::part::{Part, part_of};
 use crate::reason::Reason;

@@ -1,5 +1,5 @@
 //! Where a worker's request is that is unanswered, and which steps bring its answer.
-//! Cited by missing.rt.
+//! Cited by missing.rt, reasons.rt.
 
 use crate::names::Due;
 use kt_core::{Step, World};
