@@ -134,6 +134,7 @@ def explained():
     yield from mistakes()
     yield from refused_steps()
     yield from refused_stores()
-    wanted = b"read\n  standard input could not be read: is it a folder, or closed? Give a file, as in `linda_kt run < FILE`\n"
+    said = b"standard input could not be read: is it a folder, or closed? Give a file, as in `linda_kt run < FILE`"
+    wanted = b"read\n  " + said + b"\n"
     yield tell("explained: a folder as standard input", (b"", wanted, 7), start(["replay", "--explain"], FOLDER, b""))
     yield tell("a scenario without a fault", start(["replay"], SCENE + b"end\n", b""), start(["replay", "--explain"], SCENE + b"end\n", b""))

@@ -186,7 +186,8 @@ fn a_name_too_many_is_named(rt: HostRuntime) -> Result<(), Fail> {
         text.extend_from_slice(b")\n")?;
     }
     let said = said_of(&rt, alloc, &text, WorkKind::Steps)?;
-    let expected = "  in (?int x64)\n  ^\n  a script has at most 64 names: write one here that the script has already\n";
+    let expected =
+        "  in (?int x64)\n  ^\n  a script has at most 64 names: write one here that the script has already\n";
     assert_eq!(rt; said.as_str(), expected);
     Ok(())
 }
