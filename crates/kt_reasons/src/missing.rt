@@ -236,7 +236,7 @@ fn push_end<S: CkptStore>(
     }
     if let Some(voter) = awaited(world, leader) {
         push_vote_steps(out, world, leader, voter)?;
-        out.push_str(" and then ")?;
+        out.push_str(" and at last ")?;
     }
     push_steps(out, &[Some(Due::once(Step::Decide { node: leader }))])
 }

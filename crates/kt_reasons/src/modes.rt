@@ -155,7 +155,7 @@ fn push_way_out<S: CkptStore>(
                 let name = Name(voter);
                 write!(out, "\n  ")?;
                 push_vote_steps(out, world, leader, voter)?;
-                write!(out, " for the vote of {name}, then ")?;
+                write!(out, " for the vote of {name}, and at last ")?;
                 return push_steps(out, &steps_out(world, made, node));
             }
         }

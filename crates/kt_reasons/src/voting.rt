@@ -122,7 +122,8 @@ fn control_place<S: CkptStore>(world: &World<S>, from: NodeId, to: NodeId) -> Op
     place
 }
 
-/// Says whose votes the node awaits, in words, and which steps bring one; nothing where it awaits none.
+/// Says whose votes the node awaits, in words, and which steps bring one; nothing where it awaits none. Who is asked may
+/// ask others before it votes, so these steps need not be all.
 pub(crate) fn push_votes<S: CkptStore>(
     out: &mut String,
     world: &World<S>,
@@ -143,11 +144,11 @@ pub(crate) fn push_votes<S: CkptStore>(
     }
     out.push_str(": write ")?;
     push_vote_steps(out, world, node, first)?;
-    out.push_str(" above this line")?;
-    if count > 1 {
-        out.push_str(", the same for each")?;
-    }
-    Ok(())
+    out.push_str(if count > 1 {
+        " above this line, the same for each, and try again"
+    } else {
+        " above this line and try again"
+    })
 }
 
 /// The steps that bring this vote. Where they cannot be told, the one that gives the instance up.

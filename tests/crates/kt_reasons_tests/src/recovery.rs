@@ -22,7 +22,8 @@ pub(crate) static OF_FAILURES: &[Row] = &[
         "issue w1",
         "w1 is down since it failed: write above this line `restart w1`, which asks all others to roll back,\n  \
          then `deliver w1 s1` 2 times and `deliver s1 w1` and at last `decide w1`",
-        "restart w1\ndeliver w1 s1\ndeliver w1 s1\ndeliver s1 w1\ndecide w1\nissue w1\n",
+        "restart w1\ndeliver w1 s1\ndeliver w1 s1\ndeliver s1 w1\ndeliver s1 w2\ndeliver w1 s1\ndeliver w2 \
+         s1\ndeliver s1 w1\ndecide w1\nissue w1\n",
     ),
     (
         "fail w1\n",
@@ -51,21 +52,21 @@ pub(crate) static OF_FAILURES: &[Row] = &[
     (
         "fail w1\nrestart w1\n",
         "decide w1",
-        "w1 awaits the vote of s1: write `deliver w1 s1` and `deliver s1 w1` above this line",
+        "w1 awaits the vote of s1: write `deliver w1 s1` and `deliver s1 w1` above this line and try again",
         "deliver w1 s1\ndeliver s1 w1\ndecide w1\n",
     ),
     (
         "fail w1\nrestart w1\n",
         "issue w1",
         "w1 rolls back and can do nothing else before that is over: write above this line\n  `deliver w1 s1` and \
-         `deliver s1 w1` for the vote of s1, then `decide w1`",
+         `deliver s1 w1` for the vote of s1, and at last `decide w1`",
         "deliver w1 s1\ndeliver s1 w1\ndecide w1\nissue w1\n",
     ),
     (
         "fail w1\nrestart w1\ndeliver w1 s1\n",
         "issue w1",
         "w1 rolls back and can do nothing else before that is over: write above this line\n  `deliver s1 w1` for \
-         the vote of s1, then `decide w1`",
+         the vote of s1, and at last `decide w1`",
         "deliver s1 w1\ndecide w1\nissue w1\n",
     ),
     (
@@ -173,25 +174,32 @@ pub(crate) static OF_CHECKS: &[Row] = &[
     (
         "issue w1\ndeliver w1 s1\nserve s1 w1 0\ndeliver s1 w1\ncheck w1\n",
         "decide w1",
-        "w1 awaits the vote of s1: write `deliver w1 s1` and `deliver s1 w1` above this line",
-        "deliver w1 s1\ndeliver s1 w1\ndecide w1\n",
+        "w1 awaits the vote of s1: write `deliver w1 s1` and `deliver s1 w1` above this line and try again",
+        "deliver w1 s1\ndeliver s1 w1\ndeliver w1 s1\ndeliver s1 w1\ndecide w1\n",
     ),
     (
         "issue w1\ndeliver w1 s1\nserve s1 w1 0\ndeliver s1 w1\ncheck w1\n",
         "issue w1",
         "w1 is saving its state and can do nothing else before that is over: write above this line\n  `deliver w1 \
-         s1` and `deliver s1 w1` for the vote of s1, then `decide w1` and `learn w1`",
-        "deliver w1 s1\ndeliver s1 w1\ndecide w1\nlearn w1\nissue w1\n",
+         s1` and `deliver s1 w1` for the vote of s1, and at last `decide w1` and `learn w1`",
+        "deliver w1 s1\ndeliver s1 w1\ndeliver w1 s1\ndeliver s1 w1\ndecide w1\nlearn w1\nissue w1\n",
+    ),
+    (
+        "issue w1\ndeliver w1 s1\nserve s1 w1 0\ndeliver s1 w1\ncheck w1\ndeliver w1 s1\ndeliver s1 w1\n",
+        "decide w1",
+        "w1 awaits the vote of s1: write `deliver w1 s1` and `deliver s1 w1` above this line and try again",
+        "deliver w1 s1\ndeliver s1 w1\ndecide w1\n",
     ),
     (
         "issue w1\ndeliver w1 s1\nserve s1 w1 0\ndeliver s1 w1\ncheck w1\ndeliver w1 s1\n",
         "decide s1",
-        "s1 takes part in what w1 began, which w1 alone decides: write `deliver s1 w1` and then `decide w1` in \
+        "s1 takes part in what w1 began, which w1 alone decides: write `deliver s1 w1` and at last `decide w1` in \
          place of this line",
-        "deliver s1 w1\ndecide w1\n",
+        "deliver s1 w1\ndeliver w1 s1\ndeliver s1 w1\ndecide w1\n",
     ),
     (
-        "issue w1\ndeliver w1 s1\nserve s1 w1 0\ndeliver s1 w1\ncheck w1\ndeliver w1 s1\n",
+        "issue w1\ndeliver w1 s1\nserve s1 w1 0\ndeliver s1 w1\ncheck w1\ndeliver w1 s1\ndeliver s1 w1\ndeliver w1 \
+         s1\n",
         "abandon s1",
         "s1 takes part in what w1 began, which w1 alone decides: write `abandon w1` in place of this line",
         "abandon w1\n",
@@ -199,11 +207,12 @@ pub(crate) static OF_CHECKS: &[Row] = &[
     (
         "issue w1\ndeliver w1 s1\nserve s1 w1 0\ndeliver s1 w1\ncheck w1\ndeliver w1 s1\n",
         "learn s1",
-        "w1 awaits the vote of s1: write `deliver s1 w1` above this line",
-        "deliver s1 w1\ndecide w1\nlearn s1\n",
+        "w1 awaits the vote of s1: write `deliver s1 w1` above this line and try again",
+        "deliver s1 w1\ndeliver w1 s1\ndeliver s1 w1\ndecide w1\nlearn s1\n",
     ),
     (
-        "issue w1\ndeliver w1 s1\nserve s1 w1 0\ndeliver s1 w1\ncheck w1\ndeliver w1 s1\ndeliver s1 w1\n",
+        "issue w1\ndeliver w1 s1\nserve s1 w1 0\ndeliver s1 w1\ncheck w1\ndeliver w1 s1\ndeliver s1 w1\ndeliver w1 \
+         s1\ndeliver s1 w1\n",
         "learn s1",
         "there is no verdict yet that s1 could learn: write `decide w1` above this line",
         "decide w1\nlearn s1\n",
@@ -212,8 +221,8 @@ pub(crate) static OF_CHECKS: &[Row] = &[
         "issue w1\ndeliver w1 s1\nserve s1 w1 0\ndeliver s1 w1\ncheck w1\ndeliver w1 s1\nissue w2\ndeliver w2 s1\n",
         "serve s1 w2 0",
         "s1 is saving its state and can do nothing else before that is over: write above this line\n  `deliver s1 \
-         w1` for the vote of s1, then `decide w1` and `learn s1`",
-        "",
+         w1` for the vote of s1, and at last `decide w1` and `learn s1`",
+        "deliver s1 w1\ndeliver w1 s1\ndeliver s1 w1\ndecide w1\nlearn s1\ntake s1\n",
     ),
     (
         "issue w1\ncheck s1\ndeliver w1 s1\ndecide s1\nlearn s1\n",

@@ -172,7 +172,8 @@ pub(crate) static OF_TWO_SHARDS: &[Row] = &[
     (
         "fail w1\nrestart w1\n",
         "decide w1",
-        "w1 awaits the vote of s1, s2: write `deliver w1 s1` and `deliver s1 w1` above this line, the same for each",
+        "w1 awaits the vote of s1, s2: write `deliver w1 s1` and `deliver s1 w1` above this line, the same for \
+         each, and try again",
         "deliver w1 s1\ndeliver s1 w1\ndeliver w1 s2\ndeliver s2 w1\ndecide w1\n",
     ),
 ];
