@@ -2,7 +2,7 @@
 //! Cited by reasons.rt.
 
 use crate::names::{Due, Name, push_steps};
-use crate::request::{Place, Unanswered};
+use crate::request::{Place, Unanswered, may_ask, waits_for_tuple};
 use crate::voting::{
     awaited, initiator, is_decided, push_vote_steps, push_votes, steps_out, steps_to_vote,
 };
@@ -61,7 +61,7 @@ fn push_nothing_to_ask<S: CkptStore>(
         );
     }
     match Unanswered::of(world, node) {
-        Some(request) => push_unanswered(out, request),
+        Some(request) => push_unanswered(out, world, request),
         None => write!(
             out,
             "{name} has done all its commands: take this line away, or write one more below the last of them"
@@ -70,8 +70,22 @@ fn push_nothing_to_ask<S: CkptStore>(
 }
 
 /// The worker waits for an answer.
-fn push_unanswered(out: &mut String, request: Unanswered) -> Result<(), AllocError> {
+fn push_unanswered<S: CkptStore>(
+    out: &mut String,
+    world: &World<S>,
+    request: Unanswered,
+) -> Result<(), AllocError> {
     let (name, number) = (Name(request.worker), request.number);
+    if let Some(shard) = request.unserved_at() {
+        if waits_for_tuple(world, shard, request.worker) {
+            let shard = Name(shard);
+            return write!(
+                out,
+                "request {number} of {name} waits at {shard}, where no tuple matches it: let another worker put one \
+                 first, or take this line away"
+            );
+        }
+    }
     if let Place::Lost = request.place {
         return write!(
             out,
@@ -122,7 +136,7 @@ fn push_empty_link<S: CkptStore>(
             let [first, second, third] = request.steps_to_end();
             push_steps(out, &[first.or(second).or(third)])
         }
-        None if world.worker(worker).is_none() => out.push_str("take this line away"),
+        None if !may_ask(world, worker) => out.push_str("take this line away"),
         None => {
             let mut steps = [Some(Due::once(Step::Issue { node: worker })), None, None];
             if worker == to {
@@ -177,7 +191,7 @@ fn push_not_waiting<S: CkptStore>(
             )?;
             push_steps(out, &request.steps_to_end())
         }
-        None if world.worker(worker).is_some() => {
+        None if may_ask(world, worker) => {
             let [issue, deliver, _] = steps_to_answer_of_next(worker, shard);
             write!(out, "{asker} has asked nothing that is unanswered: write ")?;
             push_steps(out, &[issue, deliver])?;

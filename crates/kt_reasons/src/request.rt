@@ -103,6 +103,16 @@ impl Unanswered {
     }
 }
 
+/// Whether the worker has a request to ask next: it is up, waits for no answer, keeps nothing back and is not done.
+pub(crate) fn may_ask<S: CkptStore>(world: &World<S>, worker: NodeId) -> bool {
+    match (world.worker(worker), world.scene().script_of(worker)) {
+        (Some(asker), Some(script)) => {
+            asker.asked().is_none() && world.kept_len(worker) == 0 && asker.has_next(script)
+        }
+        _ => false,
+    }
+}
+
 fn place_of<S: CkptStore>(world: &World<S>, worker: NodeId, number: u64) -> Place {
     for shard in ALL_NODES {
         if world.scene().has_shard(shard) {

@@ -122,8 +122,8 @@ fn control_place<S: CkptStore>(world: &World<S>, from: NodeId, to: NodeId) -> Op
     place
 }
 
-/// Says whose votes the node awaits, in words, and which steps bring one; nothing where it awaits none. Who is asked may
-/// ask others before it votes, so these steps need not be all.
+/// Says whose votes the node awaits, in words, and which steps bring one; nothing where it awaits none. Who is asked
+/// may ask others before it votes, so these steps need not be all.
 pub(crate) fn push_votes<S: CkptStore>(
     out: &mut String,
     world: &World<S>,

@@ -121,6 +121,27 @@ pub(crate) static OF_ONE_SHARD: &[Row] = &[
         "",
     ),
     (
+        "issue w2\ndeliver w2 s1\n",
+        "issue w2",
+        "request 1 of w2 waits at s1, where no tuple matches it: let another worker put one first, or take this \
+         line away",
+        "",
+    ),
+    (
+        "issue w1\ndeliver w1 s1\nserve s1 w1 0\ndeliver s1 w1\nissue w1\ndeliver w1 s1\nserve s1 w1 0\ndeliver s1 \
+         w1\n",
+        "deliver s1 w1",
+        "s1 has sent nothing to w1 that is still on its way: take this line away",
+        "",
+    ),
+    (
+        "issue w1\ndeliver w1 s1\nserve s1 w1 0\ndeliver s1 w1\nissue w1\ndeliver w1 s1\nserve s1 w1 0\ndeliver s1 \
+         w1\n",
+        "serve s1 w1 0",
+        "w1 does not wait at s1: take this line away",
+        "",
+    ),
+    (
         "",
         "repeat w1",
         "w1 waits for no answer: take this line away, or write `issue w1` in its place",
