@@ -121,15 +121,23 @@ fn push_empty_link<S: CkptStore>(
     if let [Some(ask), Some(_)] = steps_to_vote(world, to, from) {
         return write!(out, "write {ask} above this line");
     }
+    push_sending(out, world, from, to)
+}
+
+/// What is to be written so that a message on a request is on this link; or that none will be.
+fn push_sending<S: CkptStore>(
+    out: &mut String,
+    world: &World<S>,
+    from: NodeId,
+    to: NodeId,
+) -> Result<(), AllocError> {
     let worker = match from {
         NodeId::Worker(_) => from,
         NodeId::Shard(_) => to,
     };
     match Unanswered::of(world, worker) {
         Some(request) if worker == to && request.unserved_at() == Some(from) => {
-            out.push_str("write ")?;
-            push_steps(out, &request.steps_to_answer())?;
-            out.push_str(" above this line")
+            push_above(out, &request.steps_to_answer())
         }
         Some(request) => {
             out.push_str("take this line away; next comes ")?;
@@ -137,16 +145,16 @@ fn push_empty_link<S: CkptStore>(
             push_steps(out, &[first.or(second).or(third)])
         }
         None if !may_ask(world, worker) => out.push_str("take this line away"),
-        None => {
-            let mut steps = [Some(Due::once(Step::Issue { node: worker })), None, None];
-            if worker == to {
-                steps = steps_to_answer_of_next(worker, from);
-            }
-            out.push_str("write ")?;
-            push_steps(out, &steps)?;
-            out.push_str(" above this line")
-        }
+        None if worker == to => push_above(out, &steps_to_answer_of_next(worker, from)),
+        None => push_above(out, &[Some(Due::once(Step::Issue { node: worker }))]),
     }
+}
+
+/// Says to write these steps before the one that is refused.
+fn push_above(out: &mut String, steps: &[Option<Due>]) -> Result<(), AllocError> {
+    out.push_str("write ")?;
+    push_steps(out, steps)?;
+    out.push_str(" above this line")
 }
 
 /// The steps by which a worker asks next, and the shard answers.
@@ -172,12 +180,8 @@ fn push_not_waiting<S: CkptStore>(
     let (server, asker) = (Name(shard), Name(worker));
     match Unanswered::of(world, worker) {
         Some(request) if request.unserved_at() == Some(shard) => {
-            write!(
-                out,
-                "the request of {asker} has not come to {server} yet: write "
-            )?;
-            push_steps(out, &[request.step_to_shard()])?;
-            out.push_str(" above this line")
+            write!(out, "the request of {asker} has not come to {server} yet: ")?;
+            push_above(out, &[request.step_to_shard()])
         }
         Some(request) if request.unserved_at().is_some() => {
             write!(out, "the request of {asker} goes to another shard: write ")?;
@@ -193,9 +197,8 @@ fn push_not_waiting<S: CkptStore>(
         }
         None if may_ask(world, worker) => {
             let [issue, deliver, _] = steps_to_answer_of_next(worker, shard);
-            write!(out, "{asker} has asked nothing that is unanswered: write ")?;
-            push_steps(out, &[issue, deliver])?;
-            out.push_str(" above this line")
+            write!(out, "{asker} has asked nothing that is unanswered: ")?;
+            push_above(out, &[issue, deliver])
         }
         None => write!(
             out,
