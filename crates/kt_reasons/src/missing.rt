@@ -2,7 +2,7 @@
 //! Cited by reasons.rt.
 
 use crate::names::{Due, Name, push_steps};
-use crate::request::{Place, Unanswered, may_ask, waits_for_tuple};
+use crate::request::{Place, Unanswered, lacks_tuple, may_ask};
 use crate::voting::{
     awaited, initiator, is_decided, push_vote_steps, push_votes, steps_out, steps_to_vote,
 };
@@ -77,13 +77,8 @@ fn push_unanswered<S: CkptStore>(
 ) -> Result<(), AllocError> {
     let (name, number) = (Name(request.worker), request.number);
     if let Some(shard) = request.unserved_at() {
-        if waits_for_tuple(world, shard, request.worker) {
-            let shard = Name(shard);
-            return write!(
-                out,
-                "request {number} of {name} waits at {shard}, where no tuple matches it: let another worker put one \
-                 first, or take this line away"
-            );
+        if lacks_tuple(world, shard, request.worker) {
+            return push_lacking(out, request, shard);
         }
     }
     if let Place::Lost = request.place {
@@ -100,6 +95,20 @@ fn push_unanswered<S: CkptStore>(
     write!(
         out,
         " above this line\n  (`repeat {name}` in place of this line sends request {number} once more)"
+    )
+}
+
+/// The worker waits for a tuple that is not at the shard.
+fn push_lacking(out: &mut String, request: Unanswered, shard: NodeId) -> Result<(), AllocError> {
+    let (name, number, shard) = (Name(request.worker), request.number, Name(shard));
+    let goes = match request.place {
+        Place::Waiting { .. } => "waits at",
+        _ => "goes to",
+    };
+    write!(
+        out,
+        "request {number} of {name} {goes} {shard}, where no tuple matches it: let another worker put one \
+         first, or take this line away"
     )
 }
 
@@ -137,16 +146,29 @@ fn push_sending<S: CkptStore>(
     };
     match Unanswered::of(world, worker) {
         Some(request) if worker == to && request.unserved_at() == Some(from) => {
-            push_above(out, &request.steps_to_answer())
+            if lacks_tuple(world, from, worker) {
+                push_lacking(out, request, from)
+            } else {
+                push_above(out, &request.steps_to_answer())
+            }
         }
-        Some(request) => {
-            out.push_str("take this line away; next comes ")?;
-            let [first, second, third] = request.steps_to_end();
-            push_steps(out, &[first.or(second).or(third)])
-        }
+        Some(request) => push_next(out, world, request),
         None if !may_ask(world, worker) => out.push_str("take this line away"),
-        None if worker == to => push_above(out, &steps_to_answer_of_next(worker, from)),
+        None if worker == to => push_above(out, &steps_to_shard_of_next(world, worker)),
         None => push_above(out, &[Some(Due::once(Step::Issue { node: worker }))]),
+    }
+}
+
+/// That the line goes, and which step comes next for the request; or that it waits for a tuple.
+fn push_next<S: CkptStore>(
+    out: &mut String,
+    world: &World<S>,
+    request: Unanswered,
+) -> Result<(), AllocError> {
+    match (request.next_step(world), request.unserved_at()) {
+        (Some(due), _) => write!(out, "take this line away; next comes {due}"),
+        (None, Some(shard)) => push_lacking(out, request, shard),
+        (None, None) => out.push_str("take this line away"),
     }
 }
 
@@ -157,17 +179,15 @@ fn push_above(out: &mut String, steps: &[Option<Due>]) -> Result<(), AllocError>
     out.push_str(" above this line")
 }
 
-/// The steps by which a worker asks next, and the shard answers.
-fn steps_to_answer_of_next(worker: NodeId, shard: NodeId) -> [Option<Due>; 3] {
-    [
-        Some(Due::once(Step::Issue { node: worker })),
-        Some(Due::deliveries(worker, shard, 1)),
-        Some(Due::once(Step::Serve {
-            shard,
-            worker,
-            place: 0,
-        })),
-    ]
+/// The steps by which a worker asks next, and its request comes to its shard. Of several shards it is not known here to
+/// which one it goes.
+fn steps_to_shard_of_next<S: CkptStore>(world: &World<S>, worker: NodeId) -> [Option<Due>; 2] {
+    let issue = Due::once(Step::Issue { node: worker });
+    if world.scene().shards() != 1 {
+        return [Some(issue), None];
+    }
+    let deliver = Due::deliveries(worker, NodeId::Shard(1), 1);
+    [Some(issue), Some(deliver)]
 }
 
 /// The worker does not wait at the shard; perhaps its request is still on the link.
@@ -184,21 +204,16 @@ fn push_not_waiting<S: CkptStore>(
             push_above(out, &[request.step_to_shard()])
         }
         Some(request) if request.unserved_at().is_some() => {
-            write!(out, "the request of {asker} goes to another shard: write ")?;
-            push_steps(out, &request.steps_to_answer())?;
-            out.push_str(" in place of this line")
+            write!(out, "the request of {asker} goes to another shard: ")?;
+            push_next(out, world, request)
         }
         Some(request) => {
-            write!(
-                out,
-                "{asker} does not wait at {server} any more: take this line away; next comes "
-            )?;
-            push_steps(out, &request.steps_to_end())
+            write!(out, "{asker} does not wait at {server} any more: ")?;
+            push_next(out, world, request)
         }
         None if may_ask(world, worker) => {
-            let [issue, deliver, _] = steps_to_answer_of_next(worker, shard);
             write!(out, "{asker} has asked nothing that is unanswered: ")?;
-            push_above(out, &[issue, deliver])
+            push_above(out, &steps_to_shard_of_next(world, worker))
         }
         None => write!(
             out,

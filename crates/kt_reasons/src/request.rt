@@ -4,7 +4,7 @@
 use crate::names::Due;
 use kt_core::{Step, World};
 use kt_node::{AppMessage, Message, Talk};
-use kt_shard::Request;
+use kt_shard::{Request, Shard};
 use kt_store::CkptStore;
 use kt_tuple::{ALL_NODES, NodeId, Op};
 
@@ -82,6 +82,17 @@ impl Unanswered {
             place: 0,
         });
         [self.step_to_shard(), Some(serve)]
+    }
+
+    /// The next of the steps after which the worker has its answer; `None` where it waits for a tuple.
+    pub(crate) fn next_step<S: CkptStore>(self, world: &World<S>) -> Option<Due> {
+        if let Place::Waiting { shard } = self.place {
+            if lacks_tuple(world, shard, self.worker) {
+                return None;
+            }
+        }
+        let [first, second, third] = self.steps_to_end();
+        first.or(second).or(third)
     }
 
     /// The steps after which the worker has its answer.
@@ -202,10 +213,26 @@ pub(crate) fn waits_for_tuple<S: CkptStore>(
         return false;
     };
     match held.waiting(worker.number()) {
-        Some(request) => match &request.op {
-            Op::In(template) | Op::Rd(template) => held.bag().count_matches(template) == 0,
-            Op::Out(_) | Op::Inp(_) | Op::Rdp(_) => false,
-        },
+        Some(request) => is_lacking(held, &request.op),
         None => false,
+    }
+}
+
+/// Whether what the worker, which is up, has asked wants a tuple that the shard does not hold, wherever its request is.
+pub(crate) fn lacks_tuple<S: CkptStore>(world: &World<S>, shard: NodeId, worker: NodeId) -> bool {
+    let (Some(held), Some(asker)) = (world.shard(shard), world.worker(worker)) else {
+        return false;
+    };
+    match asker.asked() {
+        Some(op) => is_lacking(held, op),
+        None => false,
+    }
+}
+
+/// Whether the operation waits for a tuple, and none at the shard matches.
+fn is_lacking(shard: &Shard, op: &Op) -> bool {
+    match op {
+        Op::In(template) | Op::Rd(template) => shard.bag().count_matches(template) == 0,
+        Op::Out(_) | Op::Inp(_) | Op::Rdp(_) => false,
     }
 }

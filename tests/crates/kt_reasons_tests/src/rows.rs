@@ -71,8 +71,7 @@ pub(crate) static OF_ONE_SHARD: &[Row] = &[
     (
         "",
         "deliver s1 w1",
-        "s1 has sent nothing to w1 that is still on its way: write `issue w1`, `deliver w1 s1` and `serve s1 w1 0` \
-         above this line",
+        "s1 has sent nothing to w1 that is still on its way: write `issue w1` and `deliver w1 s1` above this line",
         "issue w1\ndeliver w1 s1\nserve s1 w1 0\ndeliver s1 w1\n",
     ),
     (
@@ -142,6 +141,20 @@ pub(crate) static OF_ONE_SHARD: &[Row] = &[
         "",
     ),
     (
+        "issue w2\n",
+        "issue w2",
+        "request 1 of w2 goes to s1, where no tuple matches it: let another worker put one first, or take this \
+         line away",
+        "",
+    ),
+    (
+        "issue w2\n",
+        "deliver s1 w2",
+        "s1 has sent nothing to w2 that is still on its way: request 1 of w2 goes to s1, where no tuple matches it: \
+         let another worker put one first, or take this line away",
+        "",
+    ),
+    (
         "",
         "repeat w1",
         "w1 waits for no answer: take this line away, or write `issue w1` in its place",
@@ -166,8 +179,20 @@ pub(crate) static OF_TWO_SHARDS: &[Row] = &[
     (
         "issue w1\ndeliver w1 s2\n",
         "serve s1 w1 0",
-        "the request of w1 goes to another shard: write `serve s2 w1 0` in place of this line",
+        "the request of w1 goes to another shard: take this line away; next comes `serve s2 w1 0`",
         "serve s2 w1 0\n",
+    ),
+    (
+        "",
+        "serve s1 w1 0",
+        "w1 has asked nothing that is unanswered: write `issue w1` above this line",
+        "issue w1\n",
+    ),
+    (
+        "",
+        "deliver s1 w1",
+        "s1 has sent nothing to w1 that is still on its way: write `issue w1` above this line",
+        "issue w1\n",
     ),
     (
         "issue w1\nrepeat w1\n",
