@@ -33,7 +33,7 @@ pub fn explain_fault(alloc: Global, fault: ReplayFault) -> Result<Vec<u8>, Alloc
             writeln!(out, "  {meaning}")?;
         }
         ReplayFault::Read => out.push_str(
-            "  standard input could not be read: is it a folder, or closed? Give a file, as in `linda_kt run < FILE`\n",
+            "  the scenario could not be read: is it a folder, or was standard input closed?\n",
         )?,
         ReplayFault::Write => out.push_str(
             "  standard output could not be written: is the disk full, or has the reader gone? Write it elsewhere\n",
@@ -64,7 +64,7 @@ fn why_not_opened(name: &str) -> Option<&'static str> {
             "it is there and is no store of this program: name a file that is not there yet",
         ),
         "Version" => Some(
-            "it is of version 1: carry it over by `linda_kt migrate --store FILE < JOURNAL`, with the steps that \
+            "it is of version 1: carry it over by `linda_kt migrate --store FILE JOURNAL`, with the steps that \
              `run --journal` wrote as it was made",
         ),
         "Mismatch" => Some(
