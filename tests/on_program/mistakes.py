@@ -40,6 +40,7 @@ def put(number, line):
 
 # What is said of them.
 NOTHING = "the input is empty: give a file that holds a scenario, whose first line is `linda-kt 1`"
+TOO_LONG = "the text has more than 1048576 bytes: make it shorter"
 DATABASE = "this is a database, no scenario: to go on from it, type `linda_kt resume --store DATABASE SCENARIO`"
 UNREAD = "the scenario could not be read: is it a folder, or was standard input closed?"
 NO_STORE = "it is there and is no store of this program: name a file that is not there yet"
@@ -56,8 +57,7 @@ def explained(name, words, given, line, said, status):
 def of_files():
     """A file or an input that holds no scenario."""
     yield from explained("nothing", ["replay"], b"", "line 1: 7 End", [NOTHING], 3)
-    # A text that is too long is not kept: its line is told alone.
-    yield from explained("1 MiB and a byte", ["replay"], b"#" * 1048577, "line 1: 5 Limit", [], 3)
+    yield from explained("1 MiB and a byte", ["replay"], b"#" * 1048577, "line 1: 5 Limit", [TOO_LONG], 3)
     yield from explained("a folder as the file", ["replay", FOLDER], CLOSED, "read", [UNREAD], 7)
     yield from explained("a closed input", ["replay"], CLOSED, "read", [UNREAD], 7)
     journal = start(["run", "--journal"], FAULTS, b"")[0]

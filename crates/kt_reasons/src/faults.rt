@@ -3,7 +3,7 @@
 
 use crate::names::Name;
 use crate::reasons::meaning_of_store;
-use kt_scene::{OpenError, ReplayFault, ResumeError, StepError};
+use kt_scene::{MAX_TEXT, OpenError, ReplayFault, ResumeError, SceneError, StepError};
 use std::alloc::{AllocError, Global};
 use std::fmt::Write;
 
@@ -13,7 +13,8 @@ const NOT_FRESH: &str =
      `linda_kt resume --store FILE` or `linda_kt run --resume --store FILE`";
 
 /// What the fault means and what to do, on a line that begins with two spaces. Nothing of a fault that has a line of
-/// the text: `explain_text` and `explain_step` explain that.
+/// the text: `explain_text` and `explain_step` explain that. Only a limit of line 1 is explained here: no line that can
+/// stand there has one, so the text is too long, and is not kept.
 pub fn explain_fault(alloc: Global, fault: ReplayFault) -> Result<Vec<u8>, AllocError> {
     let mut out = String::new(alloc);
     match fault {
@@ -37,6 +38,13 @@ pub fn explain_fault(alloc: Global, fault: ReplayFault) -> Result<Vec<u8>, Alloc
         )?,
         ReplayFault::Write => out.push_str(
             "  standard output could not be written: is the disk full, or has the reader gone? Write it elsewhere\n",
+        )?,
+        ReplayFault::Scene {
+            line: 1,
+            cause: SceneError::Limit,
+        } => writeln!(
+            out,
+            "  the text has more than {MAX_TEXT} bytes: make it shorter"
         )?,
         ReplayFault::Step {
             at: _,

@@ -18,5 +18,5 @@ returns-in-Run-clause-told g c =
 pub returns-in-RunChaos-clause-told : goal.returns-in-RunChaos-clause-told
 returns-in-RunChaos-clause-told g c =
     let over = c.run_chaos_returning_store-answer in
-    rw c.in-RunChaos.is (run_told _ _ _ _ _ over.result.0 c.end_run-in-RunChaos.result c.end_run-in-RunChaos.ensures.status over.ensures.written over.ensures.front
-    over.ensures.fault over.ensures.nothing)
+    rw c.in-RunChaos.is (run_told _ _ _ _ _ over.result.0 c.end_run-in-RunChaos.result c.end_run-in-RunChaos.ensures.status over.ensures.written
+    over.ensures.front over.ensures.fault over.ensures.nothing)
