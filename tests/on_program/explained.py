@@ -8,7 +8,7 @@ import tempfile
 
 from on_program.starting import FOLDER, ROOT, start, tell, told
 
-TESTS = f"{ROOT}/tests/inside/kt_explain/tests"
+TESTS = f"{ROOT}/tests/crates/kt_explain_tests/src"
 ESCAPES = {"n": "\n", "r": "\r", "t": "\t", '"': '"', "\\": "\\", "0": "\0"}
 LITERAL = re.compile(r'r#"(?P<raw>.*?)"#|"(?P<plain>(?:[^"\\]|\\.)*)"', re.DOTALL)
 TABLE = re.compile(r"(?:const|static) (\w+): &\[Row\] = &\[(.*?)\]?\)?\];\n", re.DOTALL)
@@ -35,7 +35,7 @@ def rows():
             for name, body in TABLE.findall(file.read()):
                 texts = [text_of(literal) for literal in LITERAL.finditer(body)]
                 tables[name] = list(zip(texts[::3], texts[1::3], texts[2::3]))
-    with open(f"{TESTS}.rs", encoding="utf-8") as file:
+    with open(f"{TESTS}/lib.rs", encoding="utf-8") as file:
         page = file.read()
     above = {name: text_of(LITERAL.fullmatch(text)) for name, text in CONSTANT.findall(page)}
     for place, kind, table in CALL.findall(page):
@@ -58,18 +58,27 @@ def mistakes():
 SCENE = b'linda-kt 1\nshards 1\nworker\nout ("a", 1)\nin ("a", ?int x)\nsteps\n'
 # Steps behind the scene's lines, and what is said of the last one.
 STEPS = [
-    ("issue w2", "there is no w2: the scene has w1 and s1"),
-    ("issue s1", "s1 is a shard, and only a worker asks"),
-    ("issue w1\nserve s1 w1 0",
-     "w1 does not wait at s1: on the link from w1 to s1 is 1 message still, so `deliver w1 s1` comes first"),
-    ("issue w1\ndeliver s1 w1", "no message is on the link from s1 to w1; the other way, 1 message: `deliver w1 s1`"),
-    ("deliver w1 w1", "messages go between a worker and a shard, and w1 and w1 are no such pair"),
+    ("issue w2", "there is no w2: this scenario has w1 and s1, so write one of them in its place"),
+    ("issue s1", "s1 is a shard, and only workers issue requests: write a worker here, as in `issue w1`"),
+    ("issue w1\nserve s1 w1 0", "the request of w1 has not come to s1 yet: write `deliver w1 s1` above this line"),
+    ("issue w1\ndeliver s1 w1",
+     "s1 has sent nothing to w1 that is still on its way: write `deliver w1 s1` and `serve s1 w1 0` above this line"),
+    ("deliver w1 w1",
+     "messages go between a worker and a shard, the sender stands first: write `deliver w1 s1`, below an "
+     "`issue w1` that sends one"),
     ("issue w1\ndeliver w1 s1\nserve w1 s1 0",
-     "a shard serves a worker: `serve SHARD WORKER PLACE`, and here stand w1 and s1"),
-    ("issue w1\nissue w1", "request 1 of w1 is unanswered: it can be asked once more by `repeat w1`"),
-    ("learn w1", "w1 is up; a verdict is learnt by who was asked for a checkpoint or a rollback, and by who began a check"),
-    ("restart w1", "w1 is up; only a node restarts that has failed, or whose own rollback got No"),
-    ("fail w1\nissue w1", "w1 is down: it has failed and did not restart yet; only a node that is up does this"),
+     "a shard serves a worker, so the shard stands first: write `serve s1 w1 0`"),
+    ("issue w1\nissue w1",
+     "w1 still waits for the answer to request 1: write `deliver w1 s1`, `serve s1 w1 0` and `deliver s1 w1` "
+     "above this line\n  (`repeat w1` in place of this line sends request 1 once more)"),
+    ("learn w1",
+     "w1 is up and has nothing to learn: take this line away\n  (`learn w1` comes after a `decide`, while w1 saves "
+     "its state or rolls back with others)"),
+    ("restart w1",
+     "w1 is up, and only a node that failed restarts: take this line away, or write `fail w1` above it"),
+    ("fail w1\nissue w1",
+     "w1 is down since it failed: write above this line `restart w1`, which asks all others to roll back,\n"
+     "  then `deliver w1 s1` and `deliver s1 w1` and at last `decide w1`"),
 ]
 
 
@@ -88,7 +97,7 @@ def refused_steps():
 
 # Why a store is not opened, and what is said.
 NO_STORE = "it is there and is no store of this program: name a file that is not there yet"
-NO_FILE = "it could not be opened or made: is it a folder, is there no such folder, or may it not be written?"
+NO_FILE = "it could not be opened or made: name a file that can be written, not in use, in a folder that is there"
 
 
 def refused_stores():
@@ -111,7 +120,10 @@ def refused_stores():
         used = f"{folder}/used.db"
         checked = SCENE + b"check w1\ndecide w1\nend\n"
         start(["replay", "--store", used], checked, b"")
-        said = "the store holds what an earlier command left: name another file, or go on from it by `resume` or `run --resume`"
+        said = (
+            "the store holds what an earlier command left: name another file, or go on from this one by "
+            "`linda_kt resume --store FILE` or `linda_kt run --resume --store FILE`"
+        )
         wanted = f"store: NotFresh\n  {said}\n".encode()
         got = start(["replay", "--explain", "--store", used], checked, b"")
         yield tell("explained: a store that was used", (b"", wanted, 5), got)
@@ -122,6 +134,7 @@ def explained():
     yield from mistakes()
     yield from refused_steps()
     yield from refused_stores()
-    wanted = b"read\n  standard input could not be read: is it a folder, or was it closed?\n"
+    said = b"standard input could not be read: is it a folder, or closed? Give a file, as in `linda_kt run < FILE`"
+    wanted = b"read\n  " + said + b"\n"
     yield tell("explained: a folder as standard input", (b"", wanted, 7), start(["replay", "--explain"], FOLDER, b""))
     yield tell("a scenario without a fault", start(["replay"], SCENE + b"end\n", b""), start(["replay", "--explain"], SCENE + b"end\n", b""))

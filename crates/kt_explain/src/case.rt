@@ -1,7 +1,9 @@
 //! A line that has a fault, with what stands above it.
-//! Cited by ending.rt, explain.rt, fault_word.rt, header.rt, limit.rt, script_word.rt, step_word.rt, variable.rt.
+//! Cited by ending.rt, explain.rt, fault_word.rt, finding.rt, header.rt, limit.rt, script_word.rt, step_word.rt,
+//!   variable.rt.
 
 use crate::part::{Part, part_of};
+use crate::reason::Reason;
 use kt_text::{WorkKind, line_at};
 use kt_tuple::reading::{int_of, word_at};
 
@@ -14,6 +16,8 @@ pub(crate) struct Case<'a> {
     pub(crate) text: &'a [u8],
     pub(crate) part: Part,
     pub(crate) above: Above<'a>,
+    /// The number of the line, counted from 1.
+    pub(crate) number: usize,
     /// The line without its line feed.
     pub(crate) line: &'a [u8],
     /// Whether a line feed ends the line.
@@ -42,6 +46,14 @@ impl<'a> Above<'a> {
             commands: 0,
             script: text,
             script_lines: 0,
+        }
+    }
+
+    /// Why a node that these have not is not there.
+    pub(crate) fn no_node(&self) -> Reason {
+        Reason::NoNode {
+            workers: self.workers,
+            shards: self.shards,
         }
     }
 
@@ -97,6 +109,7 @@ impl<'a> Case<'a> {
             text,
             part: part_of(text, line),
             above,
+            number: line,
             line: words,
             is_ended,
         })

@@ -13,7 +13,7 @@ use crate::limit::{finding_of_limit, finding_of_node};
 use crate::part::Part;
 use crate::reason::{Limit, Reason};
 use crate::script_word::{finding_before_workers, finding_in_script};
-use crate::shown::{push_line, push_plain, push_shown};
+use crate::shown::{push_caret, push_line, push_plain, push_shown};
 use crate::spacing::{carriage_return, finding_of_spaces};
 use crate::step_word::finding_in_step;
 use crate::tuple::finding_in_places;
@@ -22,9 +22,10 @@ use kt_text::{MAX_TEXT, SceneError, SceneFault, WorkKind};
 use std::alloc::{AllocError, Global};
 
 /// What is wrong with the text, which was read as one with this kind of work and has this fault: the line as it is
-/// shown, a caret under the byte where the fault begins, and what is meant, each ended by a line feed. Where the text
-/// ends too early, or is too long, it is what is meant alone. Nothing is said of want of memory, nor of a fault that
-/// the text has not, as far as that is seen.
+/// shown, a caret under the byte where the fault begins, and what to do, each ended by a line feed. Of a line that
+/// begins as none may there, it is the line and two lines on how lines begin. Of an empty line, of a text that ends
+/// too early and of one that is too long, it is what to do alone. Nothing is said of want of memory, nor of a fault
+/// that the text has not, as far as that is seen.
 pub fn explain_text(
     alloc: Global,
     text: &[u8],
@@ -53,7 +54,7 @@ fn explain_length(alloc: Global, fault: SceneFault) -> Result<Vec<u8>, AllocErro
 {
     let mut out = Vec::new(alloc);
     if fault.cause == SceneError::Limit {
-        push_reason(&mut out, Reason::Limit(Limit::Text))?;
+        push_reason(&mut out, Reason::Limit(Limit::Text), fault.line)?;
     }
     Ok(out)
 }
@@ -68,21 +69,35 @@ fn explain_case(alloc: Global, case: &Case<'_>, cause: SceneError) -> Result<Vec
     let Some(finding) = finding_of(alloc, case, cause)? else {
         return Ok(out);
     };
-    if !case.is_end_of_text() {
+    if !case.line.is_empty() {
         let at = case.line.len().saturating_sub(finding.rest.len());
         push_line(&mut out, case.line, at)?;
+        if !finding.reason.is_of_all() {
+            push_caret(&mut out, case.line, at)?;
+        }
     }
-    push_reason(&mut out, finding.reason)?;
+    push_reason(&mut out, finding.reason, case.number)?;
     Ok(out)
 }
 
-fn push_reason(out: &mut Vec<u8>, reason: Reason) -> Result<(), AllocError>
+/// Appends what is said of the line of this number.
+fn push_reason(out: &mut Vec<u8>, reason: Reason, number: usize) -> Result<(), AllocError>
     ensures { OnOk result (IsPlain out.old.items → IsPlain out.new.items) }
 {
     let alloc = *out.allocator();
-    let message = reason.message(alloc)?;
+    let first = reason.first_line(alloc, number)?;
+    push_said(out, first.as_bytes())?;
+    match reason.second_line() {
+        Some(second) => push_said(out, second.as_bytes()),
+        None => Ok(()),
+    }
+}
+
+fn push_said(out: &mut Vec<u8>, line: &[u8]) -> Result<(), AllocError>
+    ensures { OnOk result (IsPlain out.old.items → IsPlain out.new.items) }
+{
     push_plain(out, b"  ")?;
-    push_shown(out, message.as_bytes())?;
+    push_shown(out, line)?;
     push_plain(out, b"\n")
 }
 
@@ -99,7 +114,7 @@ fn finding_of<'a>(
                 None => finding_of_form(alloc, case, cause),
             }
         }
-        SceneError::Variable => Ok(finding_of_name(case)),
+        SceneError::Variable => finding_of_name(alloc, case),
         SceneError::Limit => Ok(finding_of_limit(case)),
         SceneError::Node => Ok(finding_of_node(case)),
         SceneError::End => Ok(Some(finding_at_end(case))),

@@ -2,7 +2,7 @@
 //! Cited by explain.rt, limit.rt.
 
 use crate::case::Case;
-use crate::finding::{Finding, word_in_front};
+use crate::finding::{Finding, past_blank, word_in_front};
 use crate::near::nearest;
 use crate::node::{behind_node, behind_word, number_alone};
 use crate::reason::{ALONE, Limit, Reason};
@@ -11,8 +11,14 @@ use crate::words::{FAULT_WORDS, STEP_WORDS, is_among};
 use std::alloc::{AllocError, Global};
 
 const FORM: Reason = Reason::Said(
-    "the forms are `fail NODE after N` and `check NODE after N`, as in `fail s1 after 3`",
+    "the form is `fail s1 after 3` or `check s1 after 3`: 3 says how many steps of its own the node makes first",
 );
+
+const NO_FAULT: &str =
+    "no fault line begins so: write one as `fail w1 after 3` or `check w1 after 3`, or `end` as the last line";
+
+const STEP: &str =
+    "steps are for `linda_kt replay`, below `steps` in place of `faults`; here write `fail w1 after 3` or the like";
 
 /// What is wrong with a line behind `faults`.
 pub(crate) fn finding_in_fault<'a>(
@@ -21,26 +27,23 @@ pub(crate) fn finding_in_fault<'a>(
 ) -> Result<Finding<'a>, AllocError> {
     let (word, rest) = word_in_front(case.line);
     if word == b"end".as_slice() {
-        return Ok(Finding::new(rest, ALONE));
+        return Ok(Finding::new(past_blank(rest), ALONE));
     }
     if is_among(word, FAULT_WORDS) {
         return Ok(match judge(rest) {
             Ok(()) => Finding::new(case.line, FORM),
-            Err(finding) => finding,
+            Err(finding) => finding.in_scene(&case.above),
         });
     }
     if is_among(word, STEP_WORDS) {
-        return Ok(Finding::said(
-            case.line,
-            "steps are for `linda_kt replay`: behind `faults` stand `fail NODE after N` and `check NODE after N`",
-        ));
+        return Ok(Finding::said(case.line, STEP));
     }
     if let Some(text) = text_of_script(case, word) {
         return Ok(Finding::said(case.line, text));
     }
     match nearest(alloc, word, FAULT_WORDS)? {
         Some(meant) => Ok(Finding::new(case.line, Reason::Meant(meant))),
-        None => Ok(Finding::new(case.line, Reason::Wanted(FAULT_WORDS))),
+        None => Ok(Finding::said(case.line, NO_FAULT)),
     }
 }
 

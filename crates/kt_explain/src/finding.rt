@@ -2,7 +2,9 @@
 //! Cited by command_form.rt, ending.rt, explain.rt, fault_word.rt, header.rt, limit.rt, name.rt, node.rt,
 //!   script_word.rt, spacing.rt, step_word.rt, tuple.rt, variable.rt.
 
-use crate::reason::Reason;
+use crate::case::Above;
+use crate::reason::{Limit, Reason};
+use kt_tuple::reading::word_at;
 
 /// What was found wrong in a line.
 #[derive(Clone, Copy, Debug)]
@@ -23,6 +25,25 @@ impl<'a> Finding<'a> {
             rest,
             reason: Reason::Said(text),
         }
+    }
+
+    /// The same; of a node's number that is too great it says which nodes the scenario has.
+    pub(crate) fn in_scene(self, above: &Above<'_>) -> Finding<'a> {
+        match self.reason {
+            Reason::Limit(Limit::NodeNumbers) => Finding {
+                reason: above.no_node(),
+                ..self
+            },
+            _ => self,
+        }
+    }
+}
+
+/// The bytes after the space in front, so that what is wrong is shown and not the space before it.
+pub(crate) fn past_blank(text: &[u8]) -> &[u8] {
+    match word_at(text, b" ") {
+        Ok(rest) => rest,
+        Err(_) => text,
     }
 }
 

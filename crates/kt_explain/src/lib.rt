@@ -33,6 +33,6 @@ mod variable;
 mod words;
 
 pub use explain::explain_text;
-pub use meaning::{Meaning, MeaningKind, explain_number, meanings};
+pub use meaning::{Meaning, MeaningKind, meanings, meanings_of};
 pub use near::{MAX_EDITS, nearest};
 pub use part::{Part, part_of};

@@ -10,6 +10,10 @@ use crate::reason::{Limit, Reason};
 use kt_script::MAX_COMMANDS;
 use kt_tuple::reading::{int_of, word_at};
 
+const SKIPS_NONE: &str =
+    "`unless N` skips the next N commands where the last answer was none: write 1 or \
+                          more, or take this line away";
+
 /// The limit that a line passes.
 pub(crate) fn finding_of_limit<'a>(case: &Case<'a>) -> Option<Finding<'a>> {
     match case.part {
@@ -45,8 +49,9 @@ fn in_script<'a>(case: &Case<'a>) -> Finding<'a> {
 fn in_number(line: &[u8]) -> Option<Finding<'_>> {
     if let Ok(number) = word_at(line, b"unless ") {
         return match int_of(number) {
-            Some(count) if 1 <= count && count.unsigned_abs() <= MAX_COMMANDS as u64 => None,
-            _ => Some(Finding::new(number, Reason::Limit(Limit::Skips))),
+            Some(0) => Some(Finding::said(number, SKIPS_NONE)),
+            Some(count) if count.unsigned_abs() <= MAX_COMMANDS as u64 => None,
+            _ => Some(Finding::new(number, Reason::Limit(Limit::ManySkips))),
         };
     }
     let number = constant_of(word_at(line, b"set").ok()?).ok()?;
@@ -63,11 +68,5 @@ pub(crate) fn finding_of_node<'a>(case: &Case<'a>) -> Option<Finding<'a>> {
     }
     let (_, rest) = word_in_front(case.line);
     let node = word_at(rest, b" ").ok()?;
-    Some(Finding::new(
-        node,
-        Reason::NoNode {
-            workers: case.above.workers,
-            shards: case.above.shards,
-        },
-    ))
+    Some(Finding::new(node, case.above.no_node()))
 }

@@ -38,15 +38,29 @@ pub fn meanings() -> &'static [Meaning] {
     MEANINGS
 }
 
-/// All that this number can mean, a line each, as `fault 3 Tuple: ..`. Of a number that means nothing it is empty.
-pub fn explain_number(alloc: Global, number: u8) -> Result<Vec<u8>, AllocError> {
+/// All that a word can mean that the program prints, a line each, as `fault 3 Tuple: ..`: the word is a number or a
+/// name. Of a word that is printed nowhere it is empty.
+pub fn meanings_of(alloc: Global, word: &str) -> Result<Vec<u8>, AllocError> {
     let mut out = Vec::new(alloc);
     for meaning in meanings() {
-        if meaning.number == Some(number) {
+        if meaning.is_called(word) {
             push_meaning(&mut out, meaning)?;
         }
     }
     Ok(out)
+}
+
+impl Meaning {
+    /// Whether the word is its number or its name.
+    fn is_called(&self, word: &str) -> bool {
+        !word.is_empty()
+            && (self.name == word || self.number.is_some() && self.number == number_in(word))
+    }
+}
+
+/// The number that the word is, in decimal.
+fn number_in(word: &str) -> Option<u8> {
+    word.parse::<u8>().ok()
 }
 
 fn push_meaning(out: &mut Vec<u8>, meaning: &Meaning) -> Result<(), AllocError> {

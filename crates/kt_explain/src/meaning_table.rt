@@ -21,7 +21,7 @@ pub(crate) const MEANINGS: &[Meaning] = &[
         kind: MeaningKind::Fault,
         number: Some(3),
         name: "Tuple",
-        text: "what stands behind the operation's word is no tuple or template, or is over its limits",
+        text: "what comes after the operation's word is no tuple or template, or is over its limits",
     },
     Meaning {
         kind: MeaningKind::Fault,
@@ -45,7 +45,7 @@ pub(crate) const MEANINGS: &[Meaning] = &[
         kind: MeaningKind::Fault,
         number: Some(7),
         name: "End",
-        text: "the last line has no line feed, the text ends before `end`, or something stands behind `end`",
+        text: "the last line has no line feed, the text ends before `end`, or something stands below `end`",
     },
     Meaning {
         kind: MeaningKind::Fault,

@@ -17,7 +17,7 @@ pub(crate) fn name_in_front(text: &[u8]) -> Result<(&[u8], &[u8]), Finding<'_>> 
             .unwrap_or(text);
         return Err(Finding::said(
             rest,
-            "a name has small letters, digits and `_` alone: write it so",
+            "a name has small letters, digits and `_` alone: write it so, as `count_up`",
         ));
     }
     if word.len() > MAX_NAME {
@@ -26,7 +26,7 @@ pub(crate) fn name_in_front(text: &[u8]) -> Result<(&[u8], &[u8]), Finding<'_>> 
     if !is_name(word) {
         return Err(Finding::said(
             text,
-            "`int`, `str`, `bool`, `true` and `false` are no names: take another name",
+            "`int`, `str`, `bool`, `true` and `false` are no names: write another name here",
         ));
     }
     Ok((word, rest))
@@ -37,11 +37,11 @@ fn reason_of_first(text: &[u8]) -> Option<Reason> {
     match text.first() {
         Some(b'a'..=b'z') => None,
         Some(b'A'..=b'Z' | b'0'..=b'9' | b'_') => {
-            Some(Reason::Said("a name begins with a small letter, a to z"))
+            Some(Reason::Said("a name begins with a small letter, a to z: write it so, as `x1`"))
         }
         Some(b' ') => Some(Reason::Said("one space is enough here: take this one away")),
         _ => Some(Reason::Said(
-            "a name is wanted here: a small letter, then small letters, digits and `_`",
+            "write a name here: a small letter, then small letters, digits and `_`",
         )),
     }
 }

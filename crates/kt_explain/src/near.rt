@@ -1,5 +1,5 @@
 //! Which word was meant by one that is misspelt.
-//! Cited by fault_word.rt, header.rt, script_word.rt, step_word.rt.
+//! Cited by fault_word.rt, header.rt, script_word.rt, step_word.rt, variable.rt.
 
 ghost use Rattle.std.specs.Prelude.{◌≡◌, ◌≤◌, ◌<◌, ◌+◌, IfOk, IfSome, IfNone, All, length, map, min};
 ghost use Rattle.std.specs.Char.{to_ascii_lowercase};

@@ -1,14 +1,14 @@
 //! Nodes and numbers, read with what is wrong with them.
 //! Cited by command_form.rt, fault_word.rt, step_word.rt.
 
-use crate::finding::Finding;
+use crate::finding::{Finding, past_blank};
 use crate::name::letters_in_front;
 use crate::reason::{Limit, Reason};
 use kt_tuple::reading::{int_at, int_of, word_at};
 use kt_tuple::{MAX_SHARDS, MAX_WORKERS};
 
 const FORM: &str =
-    "a node is wanted here: `w1`, `w2` and so on are the workers, `s1`, `s2` and so on the shards";
+    "write a node here: `w1`, `w2` and so on are the workers, `s1`, `s2` and so on the shards";
 
 /// The bytes behind the node that stands in front; or why there is none.
 pub(crate) fn behind_node(text: &[u8]) -> Result<&[u8], Finding<'_>> {
@@ -54,7 +54,7 @@ pub(crate) fn behind_word<'a>(
 ) -> Result<&'a [u8], Finding<'a>> {
     match word_at(text, word) {
         Ok(rest) => Ok(rest),
-        Err(_) => Err(Finding::new(text, reason)),
+        Err(_) => Err(Finding::new(past_blank(text), reason)),
     }
 }
 

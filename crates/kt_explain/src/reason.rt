@@ -1,6 +1,6 @@
-//! What is said of a mistake, each in one line.
-//! Cited by command_form.rt, ending.rt, explain.rt, fault_word.rt, finding.rt, header.rt, limit.rt, name.rt, node.rt,
-//!   script_word.rt, spacing.rt, step_word.rt, tuple.rt, variable.rt.
+//! What is said of a mistake: what to do, in one line, and in two where it has to say how lines begin.
+//! Cited by case.rt, command_form.rt, ending.rt, explain.rt, fault_word.rt, finding.rt, header.rt, limit.rt, name.rt,
+//!   node.rt, script_word.rt, spacing.rt, step_word.rt, tuple.rt, variable.rt.
 
 use kt_scenario::MAX_STEPS;
 use kt_script::{MAX_COMMANDS, MAX_NAME, MAX_VARIABLES};
@@ -13,12 +13,12 @@ const MAX_MATCH: u64 = MAX_STEPS - 1;
 
 /// Of a remark that does not have its line for itself.
 pub(crate) const REMARK_BEHIND: Reason = Reason::Said(
-    "a remark stands on a line of its own, with `#` as the first byte",
+    "a remark needs a line of its own, which begins with `#`: write it above this line",
 );
 
 /// Of more behind a word that stands alone.
 pub(crate) const ALONE: Reason = Reason::Said(
-    "this word stands alone on its line: take away what stands behind it",
+    "the first word of this line stands alone: take away what comes after it",
 );
 
 /// Why a line has a fault.
@@ -26,10 +26,16 @@ pub(crate) const ALONE: Reason = Reason::Said(
 pub(crate) enum Reason {
     /// This text says all of it.
     Said(&'static str),
+    /// This text says it, behind the number of the line.
+    OfLine(&'static str),
+    /// The text ends too early.
+    Missing(Missing),
+    /// No line begins so; two lines say how lines begin there.
+    Unknown(&'static str, &'static str),
     /// This was meant.
     Meant(&'static str),
-    /// One of these words is wanted.
-    Wanted(&'static [&'static str]),
+    /// Nothing binds the name, and it is near to this value.
+    NearValue(&'static str),
     /// Behind this word one node is wanted.
     OneNode(&'static str),
     /// A limit is passed.
@@ -38,8 +44,17 @@ pub(crate) enum Reason {
     NoNode { workers: usize, shards: i64 },
     /// The name stands for values of this kind.
     BoundTo(Kind),
-    /// The name stands for values of this kind, and `set` is for ints.
+    /// The name stands for values of this kind, and `set` adds to ints.
     NoInt(Kind),
+}
+
+/// What a text lacks that ends too early.
+#[derive(Clone, Copy, Debug)]
+pub(crate) struct Missing {
+    /// What the next line is to be.
+    pub(crate) line: &'static str,
+    /// What is to come then.
+    pub(crate) then: &'static str,
 }
 
 /// What has a limit.
@@ -63,8 +78,10 @@ pub(crate) enum Limit {
     Characters,
     /// The bits of an int.
     Bits,
-    /// The number of `unless`.
+    /// The form of `unless`, with its number.
     Skips,
+    /// The number of `unless`, which is too great.
+    ManySkips,
     /// The number of a fault line.
     After,
     /// The place of `serve`.
@@ -75,25 +92,55 @@ impl Reason {
     /// Of a byte that is no ASCII character, the first of these.
     pub(crate) fn of_foreign(rest: &[u8]) -> Reason {
         Reason::Said(match rest.first() {
-            Some(b'\t') => "a tab: write one space in its place",
-            Some(b'\r') => "a carriage return: lines end with LF alone",
+            Some(b'\t') => "a tab, shown as `\\t`: write one space in its place",
+            Some(b'\r') =>
+                "a carriage return, shown as `\\r`: take it away, lines end with LF alone",
             Some(128..=255) =>
-                "this byte is no ASCII: write letters, digits and signs of ASCII alone",
-            _ => "a control byte: take it away",
+                "no ASCII character, its bytes are shown as `\\x..`: write letters, digits and signs of ASCII alone",
+            _ => "a control byte, shown as `\\x..`: take it away",
         })
     }
 
-    /// What is said, without a line feed.
-    pub(crate) fn message(self, alloc: Global) -> Result<String, AllocError> {
+    /// Whether it is of the whole line, so that no place in it is marked.
+    pub(crate) fn is_of_all(self) -> bool {
+        matches!(self, Reason::Unknown(_, _))
+    }
+
+    /// The second line of what is said, without a line feed; most have none.
+    pub(crate) fn second_line(self) -> Option<&'static str> {
         match self {
-            Reason::Said(text) => String::from_str(alloc, text),
-            Reason::Meant(word) => format!(in alloc; "did you mean `{word}`?"),
-            Reason::Wanted(words) => wanted(alloc, words),
-            Reason::OneNode(word) => {
-                format!(in alloc; "the form is `{word} NODE`, as in `{word} w1`")
+            Reason::Unknown(_, second) => Some(second),
+            _ => None,
+        }
+    }
+
+    /// The first line of what is said of the line of this number, without a line feed.
+    pub(crate) fn first_line(self, alloc: Global, number: usize) -> Result<String, AllocError> {
+        match self {
+            Reason::Said(text) | Reason::Unknown(text, _) => String::from_str(alloc, text),
+            Reason::OfLine(text) => format!(in alloc; "line {number} {text}"),
+            Reason::Missing(Missing { line, then }) => {
+                format!(in alloc;
+                    "the text ends too early: write `{line}` as line {number}, {then}"
+                )
             }
             Reason::Limit(limit) => limit.message(alloc),
             Reason::NoNode { workers, shards } => no_node(alloc, workers, shards),
+            _ => self.word_message(alloc),
+        }
+    }
+
+    /// Of a word or a name.
+    fn word_message(self, alloc: Global) -> Result<String, AllocError> {
+        match self {
+            Reason::NearValue(value) => {
+                format!(in alloc; "no command above binds this name: did you mean `{value}`?")
+            }
+            Reason::OneNode(word) => {
+                format!(in alloc;
+                    "the form is `{word} NODE`, with one node alone, as in `{word} w1`"
+                )
+            }
             Reason::BoundTo(kind) => {
                 let kind = name_of(kind);
                 format!(in alloc;
@@ -103,9 +150,11 @@ impl Reason {
             Reason::NoInt(kind) => {
                 let kind = name_of(kind);
                 format!(in alloc;
-                    "this name stands for {kind}, and `set` is for ints alone: take another name"
+                    "`set` adds to an int, and this name stands for {kind}: write a name that was bound by `?int`"
                 )
             }
+            Reason::Meant(word) => format!(in alloc; "did you mean `{word}`?"),
+            _ => Ok(String::new(alloc)),
         }
     }
 }
@@ -116,42 +165,69 @@ impl Limit {
             Limit::Text => format!(in alloc;
                 "the text has more than {MAX_TEXT} bytes: make it shorter"
             ),
+            Limit::Skips | Limit::ManySkips | Limit::After | Limit::Match => {
+                self.number_message(alloc)
+            }
+            Limit::ShardsLine | Limit::Shards | Limit::Workers | Limit::NodeNumbers => {
+                self.scene_message(alloc)
+            }
+            _ => self.script_message(alloc),
+        }
+    }
+
+    /// Of what a script has.
+    fn script_message(self, alloc: Global) -> Result<String, AllocError> {
+        match self {
+            Limit::Commands => format!(in alloc;
+                "a script has at most {MAX_COMMANDS} commands: take some away"
+            ),
             Limit::Names => format!(in alloc;
-                "a script has at most {MAX_VARIABLES} names: use one again"
+                "a script has at most {MAX_VARIABLES} names: write one here that the script has already"
             ),
             Limit::Name => format!(in alloc;
                 "a name has at most {MAX_NAME} characters: make it shorter"
             ),
             Limit::Places => {
                 format!(in alloc;
-                    "a tuple or template has at most {MAX_PLACES} places: this one is too many"
+                    "a tuple or template has at most {MAX_PLACES} places: take away this one and those after it"
                 )
             }
             Limit::Characters => {
                 format!(in alloc; "a str has at most {MAX_CHARACTERS} characters: make it shorter")
             }
-            Limit::Bits => {
+            _ => {
                 let (least, most) = (i64::MIN, i64::MAX);
                 format!(in alloc; "an int has 64 bits: write one from {least} to {most}")
             }
+        }
+    }
+
+    /// Of the numbers of commands, steps and fault lines.
+    fn number_message(self, alloc: Global) -> Result<String, AllocError> {
+        match self {
             Limit::Skips => {
                 format!(in alloc;
-                    "the form is `unless N`, N from 1 to {MAX_COMMANDS}, with no zeros in front"
+                    "`unless N` skips the next N commands where the last answer was none: write N, from 1 to \
+                     {MAX_COMMANDS}, with no zeros in front"
+                )
+            }
+            Limit::ManySkips => {
+                format!(in alloc;
+                    "a script has at most {MAX_COMMANDS} commands: write `unless {MAX_COMMANDS}`, which skips all \
+                     that follow where the last answer was none"
                 )
             }
             Limit::After => {
                 format!(in alloc;
-                    "N behind `after` is from 0 to {MAX_STEPS}, with no zeros in front"
+                    "the number says how many steps of its own the node makes first: write one from 0 to \
+                     {MAX_STEPS}, with no zeros in front"
                 )
             }
-            Limit::Match => {
-                format!(in alloc; "PLACE, the last number of `serve`, is from 0 to {MAX_MATCH}")
-            }
-            Limit::Commands => format!(in alloc;
-                "a script has at most {MAX_COMMANDS} commands: take some away"
-            ),
-            Limit::ShardsLine | Limit::Shards | Limit::Workers | Limit::NodeNumbers => {
-                self.scene_message(alloc)
+            _ => {
+                format!(in alloc;
+                    "the last number picks one of the tuples that match, 0 the oldest: write 0, or one up to \
+                     {MAX_MATCH}"
+                )
             }
         }
     }
@@ -160,11 +236,12 @@ impl Limit {
     fn scene_message(self, alloc: Global) -> Result<String, AllocError> {
         match self {
             Limit::Shards => format!(in alloc;
-                "the form is `shards N`, N from 1 to {MAX_SHARDS}, with no zeros in front"
+                "the form is `shards N`, N from 1 to {MAX_SHARDS} with no zeros in front, as in `shards 1`"
             ),
             Limit::ShardsLine => {
                 format!(in alloc;
-                    "`shards N` is wanted here, N from 1 to {MAX_SHARDS}: write it behind `linda-kt 1`"
+                    "the second line says how many shards hold the tuples, 1 to {MAX_SHARDS}: write `shards 1` \
+                     above this line"
                 )
             }
             Limit::Workers => format!(in alloc;
@@ -187,21 +264,9 @@ fn name_of(kind: Kind) -> &'static str {
     }
 }
 
-/// The words, one of which is wanted.
-fn wanted(alloc: Global, words: &[&str]) -> Result<String, AllocError> {
-    let mut message = String::from_str(alloc, "one of these is wanted here:")?;
-    let mut separator = " ";
-    for word in words {
-        message.push_str(separator)?;
-        message.push_str(word)?;
-        separator = ", ";
-    }
-    Ok(message)
-}
-
 /// Which nodes there are.
 fn no_node(alloc: Global, workers: usize, shards: i64) -> Result<String, AllocError> {
-    let mut message = String::from_str(alloc, "there is no such node: this scenario has `w1`")?;
+    let mut message = String::from_str(alloc, "there is no such node: write one of `w1`")?;
     if workers > 1 {
         let more = format!(in alloc; " to `w{workers}`")?;
         message.push_str(&more)?;
@@ -211,5 +276,6 @@ fn no_node(alloc: Global, workers: usize, shards: i64) -> Result<String, AllocEr
         let more = format!(in alloc; " to `s{shards}`")?;
         message.push_str(&more)?;
     }
+    message.push_str(", which this scenario has")?;
     Ok(message)
 }

@@ -1,4 +1,4 @@
-//! A line as it is shown, and the caret under a byte of it.
+//! A line as it is shown, and a caret under a byte of it.
 //! Cited by explain.rt.
 
 ghost use Rattle.std.specs.Prelude.{OnOk, IsTrue};
@@ -12,20 +12,29 @@ const MAX_SHOWN: usize = 100;
 /// How many of them stand before the byte with the caret, where that stands far behind.
 const BEFORE_CARET: usize = 50;
 
-/// Appends the line, and below it the caret under its byte at this place, counted from 0. Of a long line a part is
-/// shown, with `...` where something is left out.
+/// Appends the line. Of a long one the part is shown in which its byte at this place stands, counted from 0, with `...`
+/// where something is left out.
 pub(crate) fn push_line(out: &mut Vec<u8>, line: &[u8], at: usize) -> Result<(), AllocError>
     ensures { OnOk result (IsPlain out.old.items → IsPlain out.new.items) }
 {
     let start = start_of_part(line.len(), at);
     let (before, from_start) = line.split_at(start.min(line.len()));
     let (shown, behind) = from_start.split_at(from_start.len().min(MAX_SHOWN));
-    let (front, _) = shown.split_at(at.saturating_sub(start).min(shown.len()));
     push_plain(out, b"  ")?;
     push_dots(out, b"...", before)?;
     push_shown(out, shown)?;
     push_dots(out, b"...", behind)?;
-    push_plain(out, b"\n  ")?;
+    push_plain(out, b"\n")
+}
+
+/// Appends a caret that stands under this byte of the line, where the line was appended before.
+pub(crate) fn push_caret(out: &mut Vec<u8>, line: &[u8], at: usize) -> Result<(), AllocError>
+    ensures { OnOk result (IsPlain out.old.items → IsPlain out.new.items) }
+{
+    let start = start_of_part(line.len(), at);
+    let (before, from_start) = line.split_at(start.min(line.len()));
+    let (front, _) = from_start.split_at(at.saturating_sub(start).min(from_start.len()));
+    push_plain(out, b"  ")?;
     push_dots(out, b"   ", before)?;
     push_widths(out, front)?;
     push_plain(out, b"^\n")

@@ -5,7 +5,13 @@ use crate::finding::{Finding, from_first};
 use crate::reason::{REMARK_BEHIND, Reason};
 
 const CARRIAGE_RETURN: &str =
-    "the line ends with CR LF: lines end with LF alone, so save the text with Unix line ends";
+    "the line ends with CR LF, the CR is shown as `\\r`: save the text with Unix line ends, LF alone";
+
+const EMPTY: Reason = Reason::OfLine("is empty: take it away, or write `#` on it");
+
+const BLANK: Reason = Reason::OfLine(
+    "has spaces or tabs alone: take it away, or write `#` as its first byte",
+);
 
 /// A carriage return at the end of the line.
 pub(crate) fn carriage_return(line: &[u8]) -> Option<Finding<'_>> {
@@ -18,7 +24,7 @@ pub(crate) fn carriage_return(line: &[u8]) -> Option<Finding<'_>> {
 /// What is wrong with the line's spaces, or a remark that stands wrong.
 pub(crate) fn finding_of_spaces(line: &[u8]) -> Option<Finding<'_>> {
     let Some(first) = line.first() else {
-        return Some(Finding::said(line, "an empty line: take it away, or write `#` on it"));
+        return Some(Finding::new(line, EMPTY));
     };
     if is_blank(first) {
         return Some(indented(line));
@@ -40,17 +46,14 @@ pub(crate) fn finding_of_spaces(line: &[u8]) -> Option<Finding<'_>> {
 /// A line that begins with a space or a tab.
 fn indented(line: &[u8]) -> Finding<'_> {
     match from_first(line, |c| !is_blank(c)) {
-        None => Finding::said(
-            line,
-            "a line of spaces: take it away, or write `#` as its first byte",
-        ),
+        None => Finding::new(line, BLANK),
         Some([b'#', ..]) => Finding::said(
             line,
-            "`#` must be the first byte of a remark's line: take away the spaces before it",
+            "a remark's line begins with `#`: take away the spaces or tabs before it",
         ),
         Some(_) => Finding::said(
             line,
-            "a word is the first thing on its line: take away the spaces before it",
+            "a line begins with its first word: take away the spaces or tabs before it",
         ),
     }
 }
@@ -73,7 +76,7 @@ fn two_blanks(line: &[u8]) -> Option<Finding<'_>> {
     let at = line.windows(2).position(|pair| pair == b"  ".as_slice())?;
     Some(Finding::said(
         line.get(at.saturating_add(1)..)?,
-        "one space stands between two words: take this one away",
+        "one space is enough between two words: take this one away",
     ))
 }
 

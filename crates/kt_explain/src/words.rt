@@ -16,13 +16,13 @@ const WORDS_BEFORE_FAULTS: &[&str] = &[
     "out", "in", "rd", "inp", "rdp", "set", "unless", "worker", "faults",
 ];
 
-/// What may begin a line behind `steps`.
+/// What may begin a line below `steps`.
 pub(crate) const STEP_WORDS: &[&str] = &[
     "issue", "repeat", "deliver", "take", "serve", "check", "decide", "abandon", "learn", "fail",
     "restart", "end",
 ];
 
-/// What may begin a line behind `faults`.
+/// What may begin a line below `faults`.
 pub(crate) const FAULT_WORDS: &[&str] = &["fail", "check", "end"];
 
 /// What may begin a line of a script.
@@ -31,6 +31,30 @@ pub(crate) fn script_words(kind: WorkKind) -> &'static [&'static str] {
         WorkKind::Steps => WORDS_BEFORE_STEPS,
         WorkKind::Faults => WORDS_BEFORE_FAULTS,
     }
+}
+
+/// Words that other spaces of tuples have, and the commands that do it here.
+const OTHER_WORDS: &[(&str, &str)] = &[
+    ("put", "out"),
+    ("write", "out"),
+    ("send", "out"),
+    ("add", "out"),
+    ("get", "in"),
+    ("take", "in"),
+    ("read", "rd"),
+];
+
+/// The command that is meant by a word of another space of tuples, before a tuple.
+pub(crate) fn command_meant(word: &[u8], rest: &[u8]) -> Option<&'static str> {
+    if !rest.starts_with(b" (") {
+        return None;
+    }
+    for (other, meant) in OTHER_WORDS {
+        if word.eq_ignore_ascii_case(other.as_bytes()) {
+            return Some(*meant);
+        }
+    }
+    None
 }
 
 /// The one of these that is the word.

@@ -9,7 +9,8 @@ use std::fmt::Write;
 
 /// Why a store is not what a command can begin with.
 const NOT_FRESH: &str =
-    "the store holds what an earlier command left: name another file, or go on from it by `resume` or `run --resume`";
+    "the store holds what an earlier command left: name another file, or go on from this one by \
+     `linda_kt resume --store FILE` or `linda_kt run --resume --store FILE`";
 
 /// What the fault means and what to do, on a line that begins with two spaces. Nothing of a fault that has a line of
 /// the text: `explain_text` and `explain_step` explain that.
@@ -21,8 +22,8 @@ pub fn explain_fault(alloc: Global, fault: ReplayFault) -> Result<Vec<u8>, Alloc
             let name = Name(node);
             writeln!(
                 out,
-                "  what the store holds of {name} is not what this scene leaves: it was made by a scenario with other \
-                 shards, workers or scripts"
+                "  what the store holds of {name} is not what this scenario leaves: give the scenario that made it, \
+                 with the same shards, workers and scripts"
             )?;
         }
         ReplayFault::Open(OpenError::Store(cause))
@@ -32,15 +33,17 @@ pub fn explain_fault(alloc: Global, fault: ReplayFault) -> Result<Vec<u8>, Alloc
             writeln!(out, "  {meaning}")?;
         }
         ReplayFault::Read => out.push_str(
-            "  standard input could not be read: is it a folder, or was it closed?\n",
+            "  standard input could not be read: is it a folder, or closed? Give a file, as in `linda_kt run < FILE`\n",
         )?,
         ReplayFault::Write => out.push_str(
-            "  standard output could not be written: is the disk full, or has the reader gone?\n",
+            "  standard output could not be written: is the disk full, or has the reader gone? Write it elsewhere\n",
         )?,
         ReplayFault::Step {
             at: _,
             cause: StepError::StepLimit,
-        } => out.push_str("  the run has made as many steps as a world makes\n")?,
+        } => out.push_str(
+            "  the run has made as many steps as can be made at once: give it fewer commands or fault lines\n",
+        )?,
         ReplayFault::Scene { .. }
         | ReplayFault::Step { .. }
         | ReplayFault::Open(OpenError::OutOfMemory)
@@ -53,17 +56,20 @@ pub fn explain_fault(alloc: Global, fault: ReplayFault) -> Result<Vec<u8>, Alloc
 /// Why no store was opened at the path, by the name of the refusal as the program prints it.
 fn why_not_opened(name: &str) -> Option<&'static str> {
     match name {
-        "Memory" => Some("there was no memory to open it"),
+        "Memory" => Some("there was no memory to open it: give the program more"),
         "Device" => Some(
-            "it could not be opened or made: is it a folder, is there no such folder, or may it not be written?",
+            "it could not be opened or made: name a file that can be written, not in use, in a folder that is there",
         ),
         "Damaged" => Some(
             "it is there and is no store of this program: name a file that is not there yet",
         ),
         "Version" => Some(
-            "it is a store of version 1 that holds something: carry it over by `migrate` with the journal that made it",
+            "it is of version 1: carry it over by `linda_kt migrate --store FILE < JOURNAL`, with the steps that \
+             `run --journal` wrote as it was made",
         ),
-        "Mismatch" => Some("it does not hold just what the journal makes"),
+        "Mismatch" => Some(
+            "it does not hold what this journal makes: give the one that `run --journal` wrote as it was made",
+        ),
         _ => None,
     }
 }

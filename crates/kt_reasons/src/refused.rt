@@ -38,9 +38,9 @@ fn line_of_step(text: &[u8], at: usize) -> Option<(usize, &[u8])> {
     None
 }
 
-/// Why the step of this number, counted from 1, was refused by the world: its line in the text, and the reason in
-/// words, each on a line that begins with two spaces. Nothing where memory was wanting, which has no other reason, or
-/// where the text has no such step.
+/// Why the step of this number, counted from 1, was refused by the world: its line in the text, and then the reason
+/// in words and what to write, on one line or two; each line begins with two spaces. Nothing where memory was wanting,
+/// which has no other reason, or where the text has no such step.
 pub fn explain_step<S: CkptStore>(
     alloc: Global,
     text: &[u8],
@@ -50,8 +50,8 @@ pub fn explain_step<S: CkptStore>(
     cause: StepError,
 ) -> Result<Vec<u8>, AllocError> {
     let mut out = String::new(alloc);
-    let step = steps.get(at.saturating_sub(1));
-    let (Some(step), Some((number, line))) = (step, line_of_step(text, at)) else {
+    let (made, from_step) = steps.split_at(at.saturating_sub(1).min(steps.len()));
+    let (Some(step), Some((number, line))) = (from_step.first(), line_of_step(text, at)) else {
         return Ok(out.into_bytes());
     };
     if cause == StepError::OutOfMemory {
@@ -59,7 +59,7 @@ pub fn explain_step<S: CkptStore>(
     }
     let line = str::from_utf8(line).unwrap_or("");
     write!(out, "  line {number}: {line}\n  ")?;
-    push_reason(&mut out, world, *step, cause)?;
+    push_reason(&mut out, world, made, *step, cause)?;
     out.push('\n')?;
     Ok(out.into_bytes())
 }

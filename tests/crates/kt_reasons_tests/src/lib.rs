@@ -2,4 +2,8 @@
 #![tactic(auto)]
 
 #[cfg(test)]
+mod recovery;
+#[cfg(test)]
+mod rows;
+#[cfg(test)]
 mod steps;

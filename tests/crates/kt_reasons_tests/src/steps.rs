@@ -1,110 +1,92 @@
-//! Steps that a world refuses, with what is said of them.
+//! Steps that a world refuses, with what is said of them. What it says to write is written: no step is refused then.
 
-use kt_core::World;
+use crate::recovery::{OF_CHECKS, OF_FAILURES};
+use crate::rows::{OF_ONE_SHARD, OF_TWO_SHARDS, Row};
+use kt_core::{Step, StepError, World};
 use kt_reasons::explain_step;
 use kt_store::MemStore;
 use kt_text::{Scenario, WorkKind, read_scene};
+use std::alloc::Global;
+use std::process::Abort;
 use std::test::Fail;
 
 /// One worker that puts and takes at one shard, and a second that takes at once.
-const SCENE: &str =
+const ONE_SHARD: &str =
     "linda-kt 1\nshards 1\nworker\nout (\"a\", 1)\nin (\"a\", ?int x)\nworker\nin (\"b\", ?int x)\n# no step\nsteps\n";
 
-/// The steps before the one that is refused, that one, and what is said.
-const ROWS: [(&str, &str, &str); 14] = [
-    (
-        "",
-        "issue w3",
-        "there is no w3: the scene has w1 to w2 and s1",
-    ),
-    ("", "issue s1", "s1 is a shard, and only a worker asks"),
-    (
-        "",
-        "deliver w1 w1",
-        "messages go between a worker and a shard, and w1 and w1 are no such pair",
-    ),
-    (
-        "issue w1\ndeliver w1 s1\n",
-        "serve w1 s1 0",
-        "a shard serves a worker: `serve SHARD WORKER PLACE`, and here stand w1 and s1",
-    ),
-    (
-        "issue w1\n",
-        "serve s1 w1 0",
-        "w1 does not wait at s1: on the link from w1 to s1 is 1 message still, so `deliver w1 s1` comes first",
-    ),
-    (
-        "issue w1\n",
-        "deliver s1 w1",
-        "no message is on the link from s1 to w1; the other way, 1 message: `deliver w1 s1`",
-    ),
-    (
-        "",
-        "serve s1 w1 0",
-        "w1 does not wait at s1: it has asked nothing that is unanswered",
-    ),
-    (
-        "issue w2\ndeliver w2 s1\n",
-        "serve s1 w2 1",
-        "s1 has no tuple that matches for it, and the place 1 is counted from 0",
-    ),
-    (
-        "issue w1\n",
-        "issue w1",
-        "request 1 of w1 is unanswered: it can be asked once more by `repeat w1`",
-    ),
-    (
-        "",
-        "learn w1",
-        "w1 is up; a verdict is learnt by who was asked for a checkpoint or a rollback, and by who began a check",
-    ),
-    (
-        "",
-        "restart w1",
-        "w1 is up; only a node restarts that has failed, or whose own rollback got No",
-    ),
-    (
-        "fail w1\n",
-        "issue w1",
-        "w1 is down: it has failed and did not restart yet; only a node that is up does this",
-    ),
-    (
-        "fail w1\nrestart w1\n",
-        "decide w1",
-        "w1 awaits the votes of s1",
-    ),
-    (
-        "check s1\nfail s1\n",
-        "restart s1",
-        "s1 began an instance that is open, or holds a tentative checkpoint: `abandon s1` or `learn s1` comes first",
-    ),
-];
+/// One worker that asks the second of two shards, puts two equal tuples and looks for a third.
+const TWO_SHARDS: &str =
+    "linda-kt 1\nshards 2\nworker\nout (\"a\", 1)\nout (\"a\", 1)\nin (\"a\", 1)\ninp (\"b\", 1)\nsteps\n";
 
-#[test]
-fn steps_that_are_refused(rt: HostRuntime) -> Result<(), Fail> {
-    let alloc = rt.alloc();
-    for (before, refused, expected) in ROWS {
-        let text = format!(in alloc; "{SCENE}{before}{refused}\nend\n")?;
-        let Scenario { scene, work } = read_scene(alloc, text.as_bytes(), WorkKind::Steps)?;
-        let steps = work.steps();
-        let opened = World::open(alloc, scene, MemStore::new(alloc));
-        let mut world = opened.ok().ok_or("a world")?;
-        let mut at = 0usize;
-        let mut said = None;
-        for step in steps {
-            at = at.saturating_add(1);
-            if let Err(cause) = world.step(alloc, *step) {
-                said = Some(explain_step(alloc, text.as_bytes(), &world, steps, at, cause)?);
-                break;
-            }
+/// The text with these steps behind the scene.
+fn text_of(alloc: Global, scene: &str, steps: &[&str]) -> Result<String, Fail> {
+    let mut text = String::from_str(alloc, scene)?;
+    for lines in steps {
+        text.push_str(lines)?;
+    }
+    text.push_str("end\n")?;
+    Ok(text)
+}
+
+/// The first step that the world refuses, with what is said of it; `None` where all are made.
+fn refused(alloc: Global, text: &str) -> Result<Option<Vec<u8>>, Fail> {
+    let Scenario { scene, work } = read_scene(alloc, text.as_bytes(), WorkKind::Steps)?;
+    let steps: &[Step] = work.steps();
+    let opened = World::open(alloc, scene, MemStore::new(alloc));
+    let mut world = opened.ok().ok_or("a world")?;
+    let mut at = 0usize;
+    for step in steps {
+        at = at.saturating_add(1);
+        let made: Result<(), StepError> = world.step(alloc, *step);
+        if let Err(cause) = made {
+            let said = explain_step(alloc, text.as_bytes(), &world, steps, at, cause)?;
+            return Ok(Some(said));
         }
-        let said = said.ok_or("a step that is refused")?;
-        let number = at.saturating_add(9);
-        let wanted = format!(in alloc; "  line {number}: {refused}\n  {expected}\n")?;
-        assert!(rt;
-            said.as_slice() == wanted.as_bytes(),
-            "{said:?} for {wanted:?}"
-        );
+    }
+    Ok(None)
+}
+
+/// How many lines the text has.
+fn lines_of(text: &str) -> usize {
+    text.as_bytes().iter().filter(|c| **c == b'\n').count()
+}
+
+/// Of each refused step it is said what its row says; and what that says to write is not refused.
+fn assert_rows(
+    rt: &impl Abort,
+    alloc: Global,
+    scene: &str,
+    rows: &[Row],
+) -> Result<(), Fail> {
+    for (before, step, expected, cure) in rows {
+        let text = text_of(alloc, scene, &[*before, *step, "\n"])?;
+        let said = refused(alloc, &text)?.ok_or("a step that is refused")?;
+        let number = lines_of(scene).saturating_add(lines_of(before)).saturating_add(1);
+        let wanted = format!(in alloc; "  line {number}: {step}\n  {expected}\n")?;
+        assert_eq!(rt; str::from_utf8(&said)?, wanted.as_str());
+        let cured = text_of(alloc, scene, &[*before, *cure])?;
+        let again = refused(alloc, &cured)?;
+        assert!(rt; again.is_none(), "{cured}: {again:?}");
     }
     Ok(())
+}
+
+#[test]
+fn steps_at_one_shard(rt: HostRuntime) -> Result<(), Fail> {
+    assert_rows(&rt, rt.alloc(), ONE_SHARD, OF_ONE_SHARD)
+}
+
+#[test]
+fn steps_at_two_shards(rt: HostRuntime) -> Result<(), Fail> {
+    assert_rows(&rt, rt.alloc(), TWO_SHARDS, OF_TWO_SHARDS)
+}
+
+#[test]
+fn steps_of_nodes_that_failed(rt: HostRuntime) -> Result<(), Fail> {
+    assert_rows(&rt, rt.alloc(), ONE_SHARD, OF_FAILURES)
+}
+
+#[test]
+fn steps_of_checks(rt: HostRuntime) -> Result<(), Fail> {
+    assert_rows(&rt, rt.alloc(), ONE_SHARD, OF_CHECKS)
 }

@@ -1,14 +1,25 @@
 //! Mistakes that people make, and all that is said of each.
+#![tactic(auto)]
+
+#[cfg(test)]
+mod commands;
+#[cfg(test)]
 mod heads;
+#[cfg(test)]
 mod scripts;
+#[cfg(test)]
 mod tuples;
+#[cfg(test)]
 mod work;
 
-use crate::tests::heads::{BEHIND_END, IN_SHARDS, IN_TITLE, IN_TITLE_OF_RUN, IN_WORKERS};
-use crate::tests::scripts::{IN_JOURNAL, IN_NAMES, IN_RESUMED, IN_SCRIPT, IN_SCRIPT_OF_RUN};
-use crate::tests::tuples::IN_TUPLES;
-use crate::tests::work::{IN_FAULTS, IN_MORE_NODES, IN_STEPS};
-use crate::{Part, explain_number, explain_text, meanings, nearest, part_of};
+use crate::commands::IN_COMMANDS;
+use crate::heads::{
+    BEHIND_END, IN_SHARDS, IN_SHARDS_OF_RUN, IN_TITLE, IN_TITLE_OF_RUN, IN_WORKERS, IN_WORKERS_OF_RUN,
+};
+use crate::scripts::{IN_JOURNAL, IN_NAMES, IN_RESUMED, IN_SCRIPT, IN_SCRIPT_OF_RUN};
+use crate::tuples::IN_TUPLES;
+use crate::work::{IN_FAULTS, IN_MORE_NODES, IN_STEPS};
+use kt_explain::{Part, explain_text, meanings, meanings_of, nearest, part_of};
 use kt_text::{MAX_TEXT, SceneError, SceneFault, WorkKind, read_scene};
 use kt_tuple::writing::push_number;
 use std::alloc::Global;
@@ -57,6 +68,14 @@ fn each_mistake_above_the_commands_is_named(rt: HostRuntime) -> Result<(), Fail>
         WorkKind::Steps,
         IN_WORKERS,
     )?;
+    assert_said(&rt, alloc, "linda-kt 1\n", WorkKind::Faults, IN_SHARDS_OF_RUN)?;
+    assert_said(
+        &rt,
+        alloc,
+        "linda-kt 1\nshards 1\n",
+        WorkKind::Faults,
+        IN_WORKERS_OF_RUN,
+    )?;
     Ok(())
 }
 
@@ -64,6 +83,7 @@ fn each_mistake_above_the_commands_is_named(rt: HostRuntime) -> Result<(), Fail>
 fn each_mistake_among_the_commands_is_named(rt: HostRuntime) -> Result<(), Fail> {
     let alloc = rt.alloc();
     assert_said(&rt, alloc, SCRIPT, WorkKind::Steps, IN_SCRIPT)?;
+    assert_said(&rt, alloc, SCRIPT, WorkKind::Steps, IN_COMMANDS)?;
     assert_said(&rt, alloc, SCRIPT, WorkKind::Faults, IN_SCRIPT_OF_RUN)?;
     assert_said(&rt, alloc, NAMES, WorkKind::Steps, IN_NAMES)?;
     Ok(())
@@ -173,7 +193,8 @@ fn a_name_too_many_is_named(rt: HostRuntime) -> Result<(), Fail> {
         text.extend_from_slice(b")\n")?;
     }
     let said = said_of(&rt, alloc, &text, WorkKind::Steps)?;
-    let expected = "  in (?int x64)\n  ^\n  a script has at most 64 names: use one again\n";
+    let expected =
+        "  in (?int x64)\n  ^\n  a script has at most 64 names: write one here that the script has already\n";
     assert_eq!(rt; said.as_str(), expected);
     Ok(())
 }
@@ -261,16 +282,19 @@ fn the_nearest_word_is_found(rt: HostRuntime) -> Result<(), Fail> {
 }
 
 #[test]
-fn all_meanings_of_a_number_are_told(rt: HostRuntime) -> Result<(), Fail> {
-    let said = explain_number(rt.alloc(), 8)?;
+fn all_meanings_of_a_word_are_told(rt: HostRuntime) -> Result<(), Fail> {
+    let said = meanings_of(rt.alloc(), "8")?;
     assert_eq!(rt;
         str::from_utf8(&said)?,
         "fault 8 OutOfMemory: memory ran out while the scenario was read\n\
 refusal 8 Store: a call of the store was refused\n\
 status 8: there are more steps than can be made at once\n"
     );
-    assert!(rt; explain_number(rt.alloc(), 1)?.len() > 0);
-    assert!(rt; explain_number(rt.alloc(), 10)?.is_empty());
+    let said = meanings_of(rt.alloc(), "NotFresh")?;
+    assert!(rt; str::from_utf8(&said)?.starts_with("store NotFresh: "));
+    for word in ["", "10", "Unknown"] {
+        assert!(rt; meanings_of(rt.alloc(), word)?.is_empty(), "{word}");
+    }
     assert!(rt; meanings().iter().all(|meaning| !meaning.text.is_empty()));
     Ok(())
 }

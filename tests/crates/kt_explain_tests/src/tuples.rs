@@ -1,5 +1,5 @@
 //! Mistakes in tuples and templates.
-use crate::tests::Row;
+use crate::Row;
 
 /// Tuples and templates.
 pub(crate) static IN_TUPLES: &[Row] = &[
@@ -8,7 +8,7 @@ pub(crate) static IN_TUPLES: &[Row] = &[
         "out (\"a\",1)\n",
         r#"  out ("a",1)
            ^
-  one space stands behind a comma: put it here
+  one space stands after a comma: put it here
 "#,
     ),
     (
@@ -48,7 +48,7 @@ pub(crate) static IN_TUPLES: &[Row] = &[
         "out (\"a\", ?int)\n",
         r#"  out ("a", ?int)
             ^
-  a formal in `out`: write a value; formals are for `in`, `rd`, `inp` and `rdp`
+  `out` takes values alone: write one here, as `1`; what begins with `?` is for `in`, `rd`, `inp` and `rdp`
 "#,
     ),
     (
@@ -56,7 +56,7 @@ pub(crate) static IN_TUPLES: &[Row] = &[
         "out (1, 2, 3, 4, 5, 6, 7, 8, 9, 10, 11, 12, 13, 14, 15, 16, 17)\n",
         r#"  out (1, 2, 3, 4, 5, 6, 7, 8, 9, 10, 11, 12, 13, 14, 15, 16, 17)
                                                               ^
-  a tuple or template has at most 16 places: this one is too many
+  a tuple or template has at most 16 places: take away this one and those after it
 "#,
     ),
     (
@@ -72,7 +72,7 @@ pub(crate) static IN_TUPLES: &[Row] = &[
         "out (\"\u{e4}\")\n",
         r#"  out ("\xc3\xa4")
         ^
-  this byte may not stand in a str: printable ASCII characters alone, from space to `~`
+  no printable ASCII, its bytes are shown as `\x..`: a str holds characters from space to `~` alone
 "#,
     ),
     (
@@ -96,7 +96,7 @@ pub(crate) static IN_TUPLES: &[Row] = &[
         "in (?int Xy)\n",
         r#"  in (?int Xy)
            ^
-  a name begins with a small letter, a to z
+  a name begins with a small letter, a to z: write it so, as `x1`
 "#,
     ),
     (
@@ -104,7 +104,7 @@ pub(crate) static IN_TUPLES: &[Row] = &[
         "in (\"a\", ?int countUp)\n",
         r#"  in ("a", ?int countUp)
                      ^
-  a name has small letters, digits and `_` alone: write it so
+  a name has small letters, digits and `_` alone: write it so, as `count_up`
 "#,
     ),
     (
@@ -112,7 +112,7 @@ pub(crate) static IN_TUPLES: &[Row] = &[
         "in (?int int)\n",
         r#"  in (?int int)
            ^
-  `int`, `str`, `bool`, `true` and `false` are no names: take another name
+  `int`, `str`, `bool`, `true` and `false` are no names: write another name here
 "#,
     ),
     (
@@ -120,7 +120,7 @@ pub(crate) static IN_TUPLES: &[Row] = &[
         "in (\"a\", int)\n",
         r#"  in ("a", int)
            ^
-  `?` is missing before it: a formal is `?int`, `?str` or `?bool`
+  `?` is missing before it: write `?int`, `?str` or `?bool`
 "#,
     ),
     (
@@ -128,7 +128,7 @@ pub(crate) static IN_TUPLES: &[Row] = &[
         "in (\"a\", ?string)\n",
         r#"  in ("a", ?string)
            ^
-  a formal is `?int`, `?str` or `?bool`, with a space and a name behind it or none
+  write `?int`, `?str` or `?bool` here, alone or with a space and a name after it, as `?int x`
 "#,
     ),
     (
@@ -136,7 +136,7 @@ pub(crate) static IN_TUPLES: &[Row] = &[
         "out (\"a\", 1) # one\n",
         r#"  out ("a", 1) # one
                ^
-  a remark stands on a line of its own, with `#` as the first byte
+  a remark needs a line of its own, which begins with `#`: write it above this line
 "#,
     ),
     (
@@ -149,7 +149,7 @@ pub(crate) static IN_TUPLES: &[Row] = &[
         "out (\"a\", 1)\r\n",
         r#"  out ("a", 1)\r
               ^
-  the line ends with CR LF: lines end with LF alone, so save the text with Unix line ends
+  the line ends with CR LF, the CR is shown as `\r`: save the text with Unix line ends, LF alone
 "#,
     ),
     (
@@ -157,7 +157,7 @@ pub(crate) static IN_TUPLES: &[Row] = &[
         "out  (\"a\", 1)\n",
         r#"  out  ("a", 1)
       ^
-  one space stands before `(`: take this one away
+  one space is enough before `(`: take this one away
 "#,
     ),
     (
@@ -165,28 +165,28 @@ pub(crate) static IN_TUPLES: &[Row] = &[
         "out \"a\", 1\n",
         r#"  out "a", 1
       ^
-  a tuple or template is wanted here, as in `out ("a", 1)` and `in ("a", ?int)`
+  a tuple or template in parentheses is wanted here, as in `out ("a", 1)` and `in ("a", ?int)`
 "#,
     ),
     (
         "nothing behind the verb and its space",
         "out \n",
-        "  out \n      ^\n  a tuple or template is wanted here, as in `out (\"a\", 1)` and `in (\"a\", ?int)`\n",
+        "  out \n      ^\n  a tuple or template in parentheses is wanted here, as in `out (\"a\", 1)` and `in (\"a\", ?int)`\n",
     ),
     (
         "no closing parenthesis",
         "out (\"a\", 1\n",
         r#"  out ("a", 1
              ^
-  the line ends inside of the tuple: `)` is missing
+  the line ends within the tuple: write `)` at its end
 "#,
     ),
     (
         "no closing quote",
         "out (\"a, 1)\n",
         r#"  out ("a, 1)
-             ^
-  the closing double quote of the str is missing
+       ^
+  this quote opens a str, and none closes it: write `"` where the str ends (`\"` does not close it)
 "#,
     ),
     (
@@ -194,7 +194,7 @@ pub(crate) static IN_TUPLES: &[Row] = &[
         "out (\"a\\n\")\n",
         r#"  out ("a\n")
           ^
-  behind `\` stands `"` or `\`: write `\\` for one `\`
+  `\` and this are no escape: take both away (a str has no line break), or write `\\` for a backslash
 "#,
     ),
     (
@@ -202,7 +202,7 @@ pub(crate) static IN_TUPLES: &[Row] = &[
         "out (\"a\tb\", x)\n",
         r#"  out ("a\tb", x)
          ^
-  a tab: a str has printable ASCII characters alone, from space to `~`
+  a tab, shown as `\t`: a str holds no tab, write a space in its place
 "#,
     ),
     (
@@ -226,7 +226,7 @@ pub(crate) static IN_TUPLES: &[Row] = &[
         "out (\"a\", (1, 2))\n",
         r#"  out ("a", (1, 2))
             ^
-  no tuple stands in a tuple: values are ints, strs and bools
+  no tuple stands in a tuple: write its values as values of this one, as in `("a", 1, 2)`
 "#,
     ),
     (
@@ -234,7 +234,7 @@ pub(crate) static IN_TUPLES: &[Row] = &[
         "out (\u{201c}a\u{201d})\n",
         r#"  out (\xe2\x80\x9ca\xe2\x80\x9d)
        ^
-  this byte is no ASCII: a str stands in the double quotes of ASCII, as in `"a"`
+  no ASCII, its bytes are shown as `\x..`: a str stands in the double quotes of ASCII, as in `"a"`
 "#,
     ),
     (
@@ -253,6 +253,142 @@ pub(crate) static IN_TUPLES: &[Row] = &[
         r#"  ...bbbbbbbbbbbbbbbbbbbbbbbbbbbbbbbbbbbbbbbbbbbbbb", 1.5, 1)
                                                        ^
   no floats: write an int, or a str as in `"1.5"`
+"#,
+    ),
+    (
+        "nothing behind `(`",
+        "out (\n",
+        r#"  out (
+       ^
+  the line ends where a value is wanted: write one here, and `)` after it
+"#,
+    ),
+    (
+        "`int` in `out`",
+        "out (\"a\", int)\n",
+        r#"  out ("a", int)
+            ^
+  `int`, `str` and `bool` are no values: write one here, as `1`, `"a"` or `true`
+"#,
+    ),
+    (
+        "a quote that is escaped",
+        "out (\"a\\\")\n",
+        r#"  out ("a\")
+       ^
+  this quote opens a str, and none closes it: write `"` where the str ends (`\"` does not close it)
+"#,
+    ),
+    (
+        "a comma and a space at the end",
+        "out (\"a\", )\n",
+        r#"  out ("a", )
+            ^
+  a value is missing before `)`: write one, or take the comma and the space away
+"#,
+    ),
+    (
+        "two commas",
+        "out (\"a\", , 1)\n",
+        r#"  out ("a", , 1)
+            ^
+  a value is missing before this comma: write one here
+"#,
+    ),
+    (
+        "two spaces behind a comma",
+        "out (\"a\",  1)\n",
+        r#"  out ("a",  1)
+            ^
+  one space stands after a comma and none after `(`: take this one away
+"#,
+    ),
+    (
+        "a tab behind a comma",
+        "out (\"a\", \t1)\n",
+        r#"  out ("a", \t1)
+            ^
+  a tab, shown as `\t`: take it away; one space stands after a comma and none after `(`
+"#,
+    ),
+    (
+        "plus",
+        "out (+1)\n",
+        r#"  out (+1)
+       ^
+  an int has no `+` before it: take it away
+"#,
+    ),
+    (
+        "a point in front",
+        "out (.5)\n",
+        r#"  out (.5)
+       ^
+  no floats: write an int, or a str as in `"1.5"`
+"#,
+    ),
+    (
+        "minus alone",
+        "out (-)\n",
+        r#"  out (-)
+        ^
+  write a digit from 1 to 9 after `-`, as in `-1`
+"#,
+    ),
+    (
+        "a letter behind a digit",
+        "out (1a)\n",
+        r#"  out (1a)
+        ^
+  an int has digits alone, and a name begins with a letter: write `"1a"` or `a1`
+"#,
+    ),
+    (
+        "no comma",
+        "out (\"a\" 1)\n",
+        r#"  out ("a" 1)
+          ^
+  a comma or `)` is missing: write a comma and a space before the next value, or `)` after the last one
+"#,
+    ),
+    (
+        "a space before a comma",
+        "out (\"a\" , 1)\n",
+        r#"  out ("a" , 1)
+          ^
+  no space stands before a comma or `)`: take it away
+"#,
+    ),
+    (
+        "a semicolon",
+        "out (\"a\"; 1)\n",
+        r#"  out ("a"; 1)
+          ^
+  a comma or `)` is missing: write a comma and a space before the next value, or `)` after the last one
+"#,
+    ),
+    (
+        "more behind the tuple",
+        "out (\"a\", 1))\n",
+        r#"  out ("a", 1))
+              ^
+  the line ends with `)`: take away what comes after it
+"#,
+    ),
+    (
+        "a sign that begins no value",
+        "out (@)\n",
+        r#"  out (@)
+       ^
+  write a value here: an int, a str in double quotes, `true`, `false` or a name that is bound above
+"#,
+    ),
+    (
+        "no name behind a formal",
+        "in (?int )\n",
+        r#"  in (?int )
+           ^
+  write a name here: a small letter, then small letters, digits and `_`
 "#,
     ),
 ];

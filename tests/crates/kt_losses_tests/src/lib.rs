@@ -1,7 +1,8 @@
 //! Histories with two cuts and more, worked out by hand.
+#![tactic(auto)]
 
-use super::*;
 use kt_history::{Act, History, Note, What};
+use kt_losses::losses;
 use kt_tuple::{Answer, NodeId, Op, Tuple};
 use std::alloc::Global;
 use std::process::Abort;

@@ -1,6 +1,7 @@
 //! Links with messages on them, call by call.
+#![tactic(auto)]
 
-use super::*;
+use kt_link::{Label, Links};
 use kt_tuple::NodeId;
 use std::test::Fail;
 

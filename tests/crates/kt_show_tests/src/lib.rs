@@ -1,15 +1,16 @@
 //! What a small store shows, written out by hand.
+#![tactic(auto)]
 
 ghost use Rattle.std.specs.Prelude.{◌≤◌, All, IfOk, IsTrue, length};
 ghost use Rattle.kt_script.specs.declared.script.TheConstants as script;
 ghost use Rattle.kt_ckpt.specs.Acts.{IsActOf};
 
-use super::*;
 use kt_ckpt::{Acts, Ckpt, LogAct, ShardState, State, WorkerState, are_acts_of};
 use kt_history::What;
 use kt_link::Label;
 use kt_script::{MAX_COMMANDS, MAX_VARIABLES};
 use kt_shard::{CachedReply, Request};
+use kt_show::show;
 use kt_store::{CkptStore, MemStore, StoreError, Verdict};
 use kt_tuple::{Answer, NodeId, Op, Template, Tuple, Value};
 use std::alloc::Global;
