@@ -36,6 +36,12 @@ command_asked (name ∷ flag ∷ []) = command_of_two name flag
 command_asked (name ∷ first ∷ second ∷ []) = command_of_three name first second
 command_asked (name ∷ first ∷ second ∷ more ∷ words) = None
 
+-- the words of a command ask for an explanation
+abbrev pub ask_for_words : List Text → Bool
+ask_for_words (name ∷ flag ∷ []) = is_word flag (codes "--explain")
+ask_for_words (name ∷ first ∷ second ∷ []) = is_word first (codes "--explain") || is_word second (codes "--explain")
+ask_for_words words = false
+
 -- the exit status by the words: that of the command that they name, over a fresh store in memory; 2 where they name
 -- none; 6 where memory ran out before they were read. Of the last two nothing is read and nothing written.
 pub data IsQuickStatus (words : List Text) (before after : Reader) (old new : Writer) (n : ℕ) : Type 0 where
