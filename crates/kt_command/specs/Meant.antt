@@ -1,6 +1,6 @@
 -- How the question ends what a number or a name means.
 -- Cited by meaning.rt, specs/Opened, `meaning::explain_word`.
-use Rattle.std.specs.Prelude.{◌≡◌, ◌≢◌, ℕ, List, []}
+use Rattle.std.specs.Prelude.{◌≡◌, ◌≢◌, ℕ, []}
 use Rattle.kt_scene.specs.Outside.{Writer}
 use Rattle.kt_command.specs.Printed.{Prints}
 

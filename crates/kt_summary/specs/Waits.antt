@@ -1,6 +1,6 @@
 -- Which workers finished, and which requests wait at which shards.
 -- Cited by Listed, laws.rt, waits.rt, `waits::push_all`, `waits::push_waits`, `waits::waiting`.
-use Rattle.std.specs.Prelude.{◌≡◌, ℕ, Bool, IsTrue, is_some, if◌then◌else◌, List, [], ◌∷◌, Option, None, Some}
+use Rattle.std.specs.Prelude.{◌≡◌, ℕ, IsTrue, is_some, if◌then◌else◌, List, [], ◌∷◌, Option, None, Some}
 use Rattle.std.specs.List.{flat_map}
 use Rattle.std.specs.Option.{option_map}
 use Rattle.kt_tuple.specs.declared.node.NodeId.{NodeId}

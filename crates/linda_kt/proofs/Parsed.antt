@@ -11,7 +11,6 @@ use Rattle.clap.specs.declared.error.Error.{Error}
 use Rattle.clap.specs.declared.error.kind.ErrorKind.{ErrorKind}
 use Rattle.clap.specs.declared.parser.matches.ArgMatches.{ArgMatches}
 use Rattle.clap.specs.declared.parser.matches.ArgMatches.TheViews.{out-ArgMatches}
-use Rattle.kt_command.specs.Command.{Asked}
 use Rattle.linda_kt.specs.Words.{answer_of, asked_of_met, misfit_kinds, words_fault}
 use Rattle.linda_kt.specs.Grammar.{command_line_app}
 

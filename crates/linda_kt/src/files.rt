@@ -5,6 +5,7 @@ ghost use Rattle.sqlite.specs.Files.{over_files};
 ghost use Rattle.linda_kt.specs.Files.{CarriesFile, ConnectsFile, OpensFile, OpensStore};
 
 use crate::copies::{ShowError, copy_aside};
+use crate::stored::StoreInFile;
 use kt_command::{Carries, Opens, Shows, Texts};
 use kt_sql::{SqlOpenError, SqlStore, connect};
 use kt_store::MemStore;
@@ -31,22 +32,26 @@ impl<'a> Files<'a> {
 
 /// What is known of a store that was opened is what `SqlStore::open` says. That the file is the one at the path is not
 /// among it: that is trusted of the call below (docs/CHECKING.md).
-impl Opens<SqlStore<FileStore<File>>, SqlOpenError> for Files<'_> {
-    ghost gives = { λ _ path answer. OpensFile path answer over_files (λ s. s.tables) (λ s. s.counts) };
+impl Opens<StoreInFile, SqlOpenError> for Files<'_> {
+    ghost gives = { λ _ path answer. OpensFile path answer over_files (λ s. s.store.tables) (λ s. s.store.counts) };
 
-    fn open(self, path: &str) -> Result<SqlStore<FileStore<File>>, SqlOpenError> {
+    fn open(self, path: &str) -> Result<StoreInFile, SqlOpenError> {
         let log = log_of(self.rt, path);
         let had_log = has_file(self.rt, log.as_ref());
         let opened = SqlStore::open(self.rt, path);
         if !had_log && opened.as_ref().err() == Some(&SqlOpenError::Damaged) {
             remove_empty(self.rt, log.as_ref());
         }
-        opened
+        match opened {
+            Ok(store) => Ok(StoreInFile { store }),
+            Err(error) => Err(error),
+        }
     }
 
     /// Copies the log into the database file, so that this file alone holds all. Where that fails, the log still holds
     /// the rest, and the next opening reads it.
-    fn put_away(store: SqlStore<FileStore<File>>) {
+    fn put_away(opened: StoreInFile) {
+        let StoreInFile { store } = opened;
         let _ = store.into_connection().close();
     }
 }
@@ -64,16 +69,16 @@ impl Texts<fs::File, io::Error> for Files<'_> {
 
 /// What is known of a copy that was opened is what `SqlStore::open` says. That it holds what the file at the path holds
 /// is not among it: that is trusted of the calls below (docs/CHECKING.md).
-impl Shows<SqlStore<FileStore<File>>, ShowError> for Files<'_> {
-    ghost gives_copy = { λ _ _ answer. OpensStore answer over_files (λ s. s.tables) (λ s. s.counts) };
+impl Shows<StoreInFile, ShowError> for Files<'_> {
+    ghost gives_copy = { λ _ _ answer. OpensStore answer over_files (λ s. s.store.tables) (λ s. s.store.counts) };
 
-    fn open_copy(self, path: &str) -> Result<SqlStore<FileStore<File>>, ShowError> {
+    fn open_copy(self, path: &str) -> Result<StoreInFile, ShowError> {
         let copy = copy_aside(self.rt, path)?;
         let opened = SqlStore::open(self.rt, copy.path());
         // The store has its files open, and wants their names no more.
         copy.remove(self.rt);
         match opened {
-            Ok(store) => Ok(store),
+            Ok(store) => Ok(StoreInFile { store }),
             Err(error) => Err(ShowError::Open(error)),
         }
     }

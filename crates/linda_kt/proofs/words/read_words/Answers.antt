@@ -1,4 +1,4 @@
-use Rattle.std.proofs.Common.{◌≡◌, ◌∙◌, rules, Option, Result, Ok, option_map, sym, ap}
+use Rattle.std.proofs.Common.{◌≡◌, ◌∙◌, rules, Option, Ok, option_map, sym, ap}
 use Rattle.kt_command.specs.Asking.{asked}
 use Rattle.kt_command.specs.Command.{texts}
 use Rattle.linda_kt.specs.Words.{answer_of, asked_of_met, kinds_of, misfit_kinds, ok_of}
