@@ -1,3 +1,4 @@
+pub mod Crossing
 pub mod Numbers
 pub mod Parsed
 pub mod Statuses

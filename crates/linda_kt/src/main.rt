@@ -23,7 +23,6 @@ mod words;
 
 use crate::files::Files;
 use crate::progress::run_with_progress;
-use crate::stored::store_may_go;
 use kt_command::Terminals;
 use kt_scene::{Sink, Source};
 use std::env;
@@ -53,7 +52,6 @@ pub(crate) fn run<T: Threads + Wait + Sync, E: Write>(
     terminals: Terminals,
     errors: &mut E,
 ) -> u8 {
-    store_may_go();
     let mut reader = Source::new(rt.stdin());
     let mut writer = Sink::new(rt.stdout());
     program::run_arguments(

@@ -5,19 +5,16 @@
 //! the three parts of that name, once for each trait of the opener, and it would come to its limit of steps. A type with
 //! no parameter it compares by its name alone.
 //! Cited by files.rt; whoever calls the trait `CkptStore`.
-ghost use denote.Param.Send.{IsSend};
-ghost use Rattle.kt_sql.specs.contracts.store.SqlStore.{the_row as sql_row};
 ghost use Rattle.kt_sql_tables.specs.Held.{content_of, is_sound, is_sure};
 ghost use Rattle.kt_sql_tables.specs.auxiliary.Lasting.{failures};
 ghost use Rattle.sqlite.specs.Files.{over_files};
 ghost use Rattle.sqlite.specs.Held.{state};
-ghost use Rattle.linda_kt.specs.contracts.stored.StoreInFile.{the_row as stored_row};
 
 use kt_ckpt::{Ckpt, CkptHeader};
 use kt_sql::SqlStore;
 use kt_store::{CkptStore, StoreError, Tentative, TentativeHeader, Verdict};
 use kt_tuple::NodeId;
-use sqlite::{Alter, File, FileStore};
+use sqlite::{File, FileStore};
 use std::alloc::Global;
 
 /// A store in the tables of a database in a file.
@@ -130,26 +127,4 @@ impl CkptStore for StoreInFile {
     fn decide(&mut self, instance: u64, yes: bool) -> Result<(), StoreError> {
         self.store.decide(instance, yes)
     }
-}
-
-/// Values of this type may go to another thread.
-fn may_go<T: Send>()
-    ensures { IsSend T.row }
-{}
-
-/// A store in SQL may, where its disk may.
-fn sql_may_go<D: Alter + Send>()
-    ensures { IsSend (sql_row D.row D.Store) }
-{
-    may_go::<SqlStore<D>>();
-}
-
-/// A store in a file may go to another thread. It does nothing: whoever hands one to a thread calls it first, and the
-/// prover has this fact at hand. It is found type by type from within, since one search would have to go from the store
-/// down to the pages of a file, and gives up before it is there.
-pub(crate) fn store_may_go()
-    ensures { IsSend stored_row }
-{
-    sql_may_go::<FileStore<File>>();
-    may_go::<StoreInFile>();
 }
