@@ -1,4 +1,3 @@
-pub mod Crossing
 pub mod Numbers
 pub mod Parsed
 pub mod Statuses

@@ -1,11 +1,11 @@
 //! The stores in files.
-//! Cited by whoever calls the trait `Carries` or `Opens` or `Shows` or `Texts`.
+//! Cited by whoever calls the trait `Carries` or `Holds` or `Opens` or `Shows` or `Texts`.
 ghost use Rattle.std.specs.Prelude.{◌≡◌, false};
 ghost use Rattle.sqlite.specs.Files.{over_files};
 ghost use Rattle.linda_kt.specs.Files.{CarriesFile, ConnectsFile, OpensFile, OpensStore};
 
 use crate::copies::{ShowError, copy_aside};
-use crate::stored::StoreInFile;
+use crate::holding::Holds;
 use kt_command::{Carries, Opens, Shows, Texts};
 use kt_sql::{SqlOpenError, SqlStore, connect};
 use kt_store::MemStore;
@@ -30,6 +30,27 @@ impl<'a> Files<'a> {
     }
 }
 
+/// The store in a file.
+#[derive(Drop)]
+pub struct StoreInFile {
+    store: SqlStore<FileStore<File>>,
+}
+
+impl Holds<SqlStore<FileStore<File>>> for StoreInFile {
+    ghost held = { λ holder. holder.store };
+
+    fn into_store(self) -> SqlStore<FileStore<File>> {
+        let StoreInFile { store } = self;
+        store
+    }
+
+    /// Copies the log into the database file, so that this file alone holds all. Where that fails, the log still holds
+    /// the rest, and the next opening reads it.
+    fn close(store: SqlStore<FileStore<File>>) {
+        let _ = store.into_connection().close();
+    }
+}
+
 /// What is known of a store that was opened is what `SqlStore::open` says. That the file is the one at the path is not
 /// among it: that is trusted of the call below (docs/CHECKING.md).
 impl Opens<StoreInFile, SqlOpenError> for Files<'_> {
@@ -48,11 +69,8 @@ impl Opens<StoreInFile, SqlOpenError> for Files<'_> {
         }
     }
 
-    /// Copies the log into the database file, so that this file alone holds all. Where that fails, the log still holds
-    /// the rest, and the next opening reads it.
     fn put_away(opened: StoreInFile) {
-        let StoreInFile { store } = opened;
-        let _ = store.into_connection().close();
+        StoreInFile::close(opened.into_store());
     }
 }
 

@@ -7,17 +7,17 @@
 //!
 //! - Contract: `run_program`, clause `told`: words without a fault do their command over the store that they name, and
 //!   the exit status says how it ended; what `linda_kt` writes is what that command may write.
-//! - Stands on: kt_tuple, kt_chaos, kt_ckpt, kt_store, kt_sql_tables, kt_sql, kt_scene, kt_stage, kt_run, kt_trials,
-//!   kt_words, kt_command; of the kit: sqlite, clap, thiserror
+//! - Stands on: kt_tuple, kt_chaos, kt_store, kt_sql_tables, kt_sql, kt_scene, kt_stage, kt_run, kt_trials, kt_words,
+//!   kt_command; of the kit: sqlite, clap, thiserror
 //! - Begin in: `program.rt`; the grammar of the words is in `grammar.rt`, and what they ask in `words.rt`.
 #![tactic(auto)]
 
 mod copies;
 mod files;
 mod grammar;
+mod holding;
 mod program;
 mod progress;
-mod stored;
 mod trials;
 mod words;
 
@@ -54,7 +54,7 @@ pub(crate) fn run<T: Threads + Wait + Sync, E: Write>(
 ) -> u8 {
     let mut reader = Source::new(rt.stdin());
     let mut writer = Sink::new(rt.stdout());
-    program::run_arguments(
+    program::run_process(
         Files::new(rt),
         threads,
         rt.alloc(),

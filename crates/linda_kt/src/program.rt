@@ -10,6 +10,7 @@ ghost use Rattle.kt_command.specs.Command.{texts, words_behind};
 ghost use Rattle.linda_kt.specs.Status.{IsRunStatus, IsWordsStatus};
 ghost use Rattle.linda_kt.specs.Words.{AreWrong, are_silent, words_fault};
 
+use crate::holding::{Holding, Holds};
 use crate::words::{read_words, refuse_bytes};
 use clap::Error;
 use clap::error::ErrorKind;
@@ -18,8 +19,9 @@ use kt_command::{
     texts_of, words_behind,
 };
 use kt_scene::{Outcome, Sink, Source};
-use kt_sql::SqlOpenError;
+use kt_sql::{SqlOpenError, SqlStore};
 use kt_store::CkptStore;
+use sqlite::Alter;
 use std::alloc::{AllocError, Global};
 use std::env::Args;
 use std::fmt::Display;
@@ -28,16 +30,56 @@ use std::io::{Read, Write};
 use std::sync::Wait;
 use std::thread::Threads;
 
-/// Runs the program on the arguments of its process, of which the first is its name. Arguments that
-/// are not text are wrong words. The store in a file and the scenario in one are opened by `opener`, and a run starts
-/// its threads by `threads`.
-pub fn run_arguments<
-    S: CkptStore + Send + Drop,
+/// Runs the program as `run_arguments` does, by an opener of holders of stores, and says nothing of it. The contract is
+/// that of `run_arguments` for `Holding`: at the types of a process it is too large to be looked at, and the process wants
+/// nothing of it.
+pub fn run_process<
+    D: Alter + Drop + Send,
+    H: Holds<SqlStore<D>>,
     C: Drop,
     G: Display + Drop,
     X: Read + Drop,
     Y: Display + Drop,
-    O: Opens<S, SqlOpenError> + Carries<C, SqlOpenError> + Shows<S, G> + Texts<X, Y>,
+    O: Opens<H, SqlOpenError> + Carries<C, SqlOpenError> + Shows<H, G> + Texts<X, Y>,
+    T: Threads + Wait + Sync,
+    R: Read,
+    W: Write,
+    E: Write,
+>(
+    opener: O,
+    threads: &T,
+    alloc: Global,
+    arguments: io::Result<Args>,
+    reader: &mut Source<R>,
+    writer: &mut Sink<W>,
+    errors: &mut E,
+    terminals: Terminals,
+) -> u8 {
+    run_arguments::<D, C, G, X, Y, Holding<O, H>, T, R, W, E>(
+        Holding::new(opener),
+        threads,
+        alloc,
+        arguments,
+        reader,
+        writer,
+        errors,
+        terminals,
+    )
+}
+
+/// Runs the program on the arguments of its process, of which the first is its name. Arguments that
+/// are not text are wrong words. The store in a file and the scenario in one are opened by `opener`, and a run starts
+/// its threads by `threads`.
+pub fn run_arguments<
+    D: Alter + Drop + Send,
+    C: Drop,
+    G: Display + Drop,
+    X: Read + Drop,
+    Y: Display + Drop,
+    O: Opens<SqlStore<D>, SqlOpenError>
+        + Carries<C, SqlOpenError>
+        + Shows<SqlStore<D>, G>
+        + Texts<X, Y>,
     T: Threads + Wait + Sync,
     R: Read,
     W: Write,
@@ -57,7 +99,7 @@ pub fn run_arguments<
     ensures no_text_reads_nothing { IsErr arguments → reader.new ≡ reader.old }
     ensures no_text_prints_nothing { IsErr arguments → writer.new ≡ writer.old }
     ensures told { IfOk arguments (λ a. words_fault (words_behind (into_iter_items a)) ≡ []
-        → IsRunStatus S.CkptStore (O.gives opener) (O.gives_copy opener) (O.connects opener)
+        → IsRunStatus ⟦<SqlStore<D> as CkptStore>⟧ (O.gives opener) (O.gives_copy opener) (O.connects opener)
         O.carries X.remaining (O.gives_text opener) (words_behind (into_iter_items a))
         reader.old reader.new writer.old writer.new result) }
     ensures wrong_words { IfOk arguments (λ a. AreWrong (words_behind (into_iter_items a))
@@ -88,12 +130,15 @@ pub fn run_arguments<
 
 /// Runs the program on these texts, of which the first is its name.
 fn run_texts<
-    S: CkptStore + Send + Drop,
+    D: Alter + Drop + Send,
     C: Drop,
     G: Display + Drop,
     X: Read + Drop,
     Y: Display + Drop,
-    O: Opens<S, SqlOpenError> + Carries<C, SqlOpenError> + Shows<S, G> + Texts<X, Y>,
+    O: Opens<SqlStore<D>, SqlOpenError>
+        + Carries<C, SqlOpenError>
+        + Shows<SqlStore<D>, G>
+        + Texts<X, Y>,
     T: Threads + Wait + Sync,
     R: Read,
     W: Write,
@@ -109,7 +154,7 @@ fn run_texts<
     terminals: Terminals,
 ) -> u8
     ensures told { words_fault (words_behind arguments.now) ≡ []
-        → IsRunStatus S.CkptStore (O.gives opener) (O.gives_copy opener) (O.connects opener)
+        → IsRunStatus ⟦<SqlStore<D> as CkptStore>⟧ (O.gives opener) (O.gives_copy opener) (O.connects opener)
         O.carries X.remaining (O.gives_text opener) (words_behind arguments.now)
         reader.old reader.new writer.old writer.new result }
     ensures wrong_words { AreWrong (words_behind arguments.now) → (result ≡ COMMAND_LINE) ⊎ (result ≡ MEMORY) }
@@ -138,12 +183,15 @@ fn run_texts<
 /// A fault is one line on `errors`, with what explains it where the words ask for that or where a person watches; of
 /// wrong words it is the text of `clap`.
 pub fn run_program<
-    S: CkptStore + Send + Drop,
+    D: Alter + Drop + Send,
     C: Drop,
     G: Display + Drop,
     X: Read + Drop,
     Y: Display + Drop,
-    O: Opens<S, SqlOpenError> + Carries<C, SqlOpenError> + Shows<S, G> + Texts<X, Y>,
+    O: Opens<SqlStore<D>, SqlOpenError>
+        + Carries<C, SqlOpenError>
+        + Shows<SqlStore<D>, G>
+        + Texts<X, Y>,
     T: Threads + Wait + Sync,
     R: Read,
     W: Write,
@@ -159,7 +207,7 @@ pub fn run_program<
     terminals: Terminals,
 ) -> u8
     ensures told { words_fault (texts words.now) ≡ []
-        → IsRunStatus S.CkptStore (O.gives opener) (O.gives_copy opener) (O.connects opener)
+        → IsRunStatus ⟦<SqlStore<D> as CkptStore>⟧ (O.gives opener) (O.gives_copy opener) (O.connects opener)
         O.carries X.remaining (O.gives_text opener) (texts words.now)
         reader.old reader.new writer.old writer.new result }
     ensures done_without_a_word { are_silent terminals (texts words.now) ≡ true → result ≡ DONE
