@@ -26,14 +26,16 @@ abbrev pub scenario_rule : Rule
 scenario_rule = record (new_rule (codes "scenario")) { value_names = 1 }
 
 abbrev pub replay_shape : Shape
-replay_shape = record (new_shape (codes "replay")) { rules = scenario_rule ∷ store_rule ∷ explain_rule ∷ json_rule ∷ [] }
+replay_shape =
+    record (new_shape (codes "replay")) { rules = scenario_rule ∷ store_rule ∷ explain_rule ∷ json_rule ∷ [] }
 
 -- the option `--store` where it must stand
 abbrev pub kept_store_rule : Rule
 kept_store_rule = record store_rule { required = true }
 
 abbrev pub resume_shape : Shape
-resume_shape = record (new_shape (codes "resume")) { rules = scenario_rule ∷ kept_store_rule ∷ explain_rule ∷ json_rule ∷ [] }
+resume_shape =
+    record (new_shape (codes "resume")) { rules = scenario_rule ∷ kept_store_rule ∷ explain_rule ∷ json_rule ∷ [] }
 
 -- the flag `--journal`
 abbrev pub journal_rule : Rule

@@ -14,9 +14,9 @@ use Rattle.linda_kt.specs.Words.{asked_by}
 abbrev pub IsWordsStatus : ℕ → Type 0
 IsWordsStatus n = (n ≡ 0) ⊎ ((n ≡ 2) ⊎ ((n ≡ 6) ⊎ (n ≡ 7)))
 
--- the exit status of words without a fault: that of what they ask, by what the opener may answer for the path of a store, of
--- its copy and of a scenario, and the carrier for a connection; or 6, with nothing read and nothing written, where memory ran out
--- before that was known
+-- the exit status of words without a fault: that of what they ask, by what the opener may answer for the path of a
+-- store, of its copy and of a scenario, and the carrier for a connection; or 6, with nothing read and nothing written,
+-- where memory ran out before that was known
 pub data IsRunStatus {S C F G X Y : Type 0} (kind : Ghosts S) (gives : Text → Result S F → Type 0)
     (copies : Text → Result S G → Type 0)
     (connects : Text → Result C F → Type 0) (carries : C → Content → Result (Unit {0}) F → Type 0)

@@ -149,7 +149,8 @@ prompts (Some shell) = Ok (Prompts shell)
 -- what a command and its own words ask, or why they ask nothing
 abbrev pub asked_of : Text → List Row → Result Asked Misfit
 asked_of name rows =
-    if is_word name (codes "show") then Ok (Shows (required_text (first_of (codes "store") rows)) (has_flag (codes "json") rows))
+    if is_word name (codes "show")
+    then Ok (Shows (required_text (first_of (codes "store") rows)) (has_flag (codes "json") rows))
     else if is_word name (codes "explain") then Ok (Explains (required_text (first_of (codes "meaning") rows)))
     else if is_word name (codes "completion") then prompts (shell_of (required_text (first_of (codes "shell") rows)))
     else if is_word name (codes "manual") then Ok Teaches
@@ -186,8 +187,8 @@ abbrev pub misfit_kinds : Result Asked Misfit → Kinds
 misfit_kinds (Ok asked) = []
 misfit_kinds (Err misfit) = kinds_of misfit
 
--- what is wrong with the words: nothing, or the kinds that the error may have. What is wrong by the rules of `clap` comes
--- first
+-- what is wrong with the words: nothing, or the kinds that the error may have. What is wrong by the rules of `clap`
+-- comes first
 abbrev pub words_fault : List Text → Kinds
 words_fault words = or_else (fault_of command_line_app words) (misfit_kinds (answer_of words))
 
@@ -210,7 +211,8 @@ pub store_passes : (words_fault (codes "replay" ∷ codes "--store" ∷ codes "a
     × (asked_by (codes "replay" ∷ codes "--store" ∷ codes "a.db" ∷ [])
     ≡ Some (Reads (Makes (Replay Open) (Some (codes "a.db"))) None tellings.Nothing))
     × (words_fault (codes "replay" ∷ codes "--store=a.db" ∷ []) ≡ [])
-    × (asked_by (codes "replay" ∷ codes "--store=a.db" ∷ []) ≡ Some (Reads (Makes (Replay Open) (Some (codes "a.db"))) None tellings.Nothing))
+    × (asked_by (codes "replay" ∷ codes "--store=a.db" ∷ [])
+    ≡ Some (Reads (Makes (Replay Open) (Some (codes "a.db"))) None tellings.Nothing))
 unfolding clap_on_literals
 store_passes = (refl, refl, refl, refl)
 
@@ -218,7 +220,8 @@ store_passes = (refl, refl, refl, refl)
 pub run_passes : (words_fault (codes "run" ∷ []) ≡ [])
     × (asked_by (codes "run" ∷ []) ≡ Some (Reads (Makes (Run Open outputs.Report) None) None tellings.Nothing))
     × (words_fault (codes "run" ∷ codes "--journal" ∷ []) ≡ [])
-    × (asked_by (codes "run" ∷ codes "--journal" ∷ []) ≡ Some (Reads (Makes (Run Open outputs.Journal) None) None tellings.Nothing))
+    × (asked_by (codes "run" ∷ codes "--journal" ∷ [])
+    ≡ Some (Reads (Makes (Run Open outputs.Journal) None) None tellings.Nothing))
     × (words_fault (codes "run" ∷ codes "--store" ∷ codes "a.db" ∷ codes "--journal" ∷ []) ≡ [])
     × (asked_by (codes "run" ∷ codes "--store" ∷ codes "a.db" ∷ codes "--journal" ∷ [])
     ≡ Some (Reads (Makes (Run Open outputs.Journal) (Some (codes "a.db"))) None tellings.Nothing))
@@ -282,14 +285,16 @@ pub chaos_fails : (words_fault (codes "run" ∷ codes "--chaos" ∷ codes "3" �
     × (words_fault (codes "run" ∷ codes "--chaos=0" ∷ codes "--seed=7" ∷ []) ≡ ValueValidation ∷ [])
     × (words_fault (codes "run" ∷ codes "--chaos=3" ∷ codes "--seed=x" ∷ []) ≡ ValueValidation ∷ [])
     × (words_fault (codes "run" ∷ codes "--chaos=3" ∷ codes "--seed=18446744073709551616" ∷ []) ≡ ValueValidation ∷ [])
-    × (words_fault (codes "run" ∷ codes "--chaos=3" ∷ codes "--seed=7" ∷ codes "--times=2" ∷ []) ≡ ArgumentConflict ∷ [])
+    × (words_fault (codes "run" ∷ codes "--chaos=3" ∷ codes "--seed=7" ∷ codes "--times=2" ∷ [])
+    ≡ ArgumentConflict ∷ [])
 unfolding clap_on_literals
 chaos_fails = (refl, refl, refl, refl, refl, refl)
 
 -- a command has no fault with the flag `--explain` or `--json`, and asks then to be explained so
 pub explain_passes : (words_fault (codes "replay" ∷ codes "--explain" ∷ []) ≡ [])
     × (asked_by (codes "replay" ∷ codes "--explain" ∷ []) ≡ Some (Reads (Makes (Replay Open) None) None tellings.Words))
-    × (asked_by (codes "run" ∷ codes "--explain" ∷ codes "--journal" ∷ []) ≡ Some (Reads (Makes (Run Open outputs.Journal) None) None tellings.Words))
+    × (asked_by (codes "run" ∷ codes "--explain" ∷ codes "--journal" ∷ [])
+    ≡ Some (Reads (Makes (Run Open outputs.Journal) None) None tellings.Words))
     × (asked_by (codes "resume" ∷ codes "--store" ∷ codes "a.db" ∷ codes "--explain" ∷ [])
     ≡ Some (Reads (Makes (Replay Resume) (Some (codes "a.db"))) None tellings.Words))
     × (asked_by (codes "replay" ∷ codes "--json" ∷ codes "--explain" ∷ [])
@@ -299,7 +304,8 @@ explain_passes = (refl, refl, refl, refl, refl)
 
 -- `migrate` has no fault with its file, which it names, and wants it
 pub migrate_passes : (words_fault (codes "migrate" ∷ codes "--store" ∷ codes "a.db" ∷ []) ≡ [])
-    × (asked_by (codes "migrate" ∷ codes "--store" ∷ codes "a.db" ∷ []) ≡ Some (Reads (Carries (codes "a.db")) None tellings.Nothing))
+    × (asked_by (codes "migrate" ∷ codes "--store" ∷ codes "a.db" ∷ [])
+    ≡ Some (Reads (Carries (codes "a.db")) None tellings.Nothing))
 unfolding clap_on_literals
 migrate_passes = (refl, refl)
 
@@ -309,7 +315,8 @@ migrate_wants_a_file = refl
 
 -- a scenario is named before the options or behind them; `-` is standard input
 pub scenario_passes : (words_fault (codes "replay" ∷ codes "a.scn" ∷ []) ≡ [])
-    × (asked_by (codes "replay" ∷ codes "a.scn" ∷ []) ≡ Some (Reads (Makes (Replay Open) None) (Some (codes "a.scn")) tellings.Nothing))
+    × (asked_by (codes "replay" ∷ codes "a.scn" ∷ [])
+    ≡ Some (Reads (Makes (Replay Open) None) (Some (codes "a.scn")) tellings.Nothing))
     × (asked_by (codes "run" ∷ codes "--journal" ∷ codes "a.scn" ∷ [])
     ≡ Some (Reads (Makes (Run Open outputs.Journal) None) (Some (codes "a.scn")) tellings.Nothing))
     × (words_fault (codes "replay" ∷ codes "-" ∷ []) ≡ [])
@@ -318,7 +325,8 @@ unfolding clap_on_literals
 scenario_passes = (refl, refl, refl, refl, refl)
 
 -- `check` reads a text alone
-pub check_passes : (words_fault (codes "check" ∷ []) ≡ []) × (asked_by (codes "check" ∷ []) ≡ Some (Reads Checks None tellings.Nothing))
+pub check_passes : (words_fault (codes "check" ∷ []) ≡ [])
+    × (asked_by (codes "check" ∷ []) ≡ Some (Reads Checks None tellings.Nothing))
     × (asked_by (codes "check" ∷ codes "a.scn" ∷ []) ≡ Some (Reads Checks (Some (codes "a.scn")) tellings.Nothing))
 unfolding clap_on_literals
 check_passes = (refl, refl, refl)
@@ -332,7 +340,8 @@ meaning_passes = (refl, refl, refl)
 
 -- so do `complete`, which reads a scenario; `show`, with its file; `completion`, with a shell; and `manual`
 pub complete_passes : (words_fault (codes "complete" ∷ []) ≡ [])
-    × (asked_by (codes "complete" ∷ codes "a.scn" ∷ []) ≡ Some (Reads Completes (Some (codes "a.scn")) tellings.Nothing))
+    × (asked_by (codes "complete" ∷ codes "a.scn" ∷ [])
+    ≡ Some (Reads Completes (Some (codes "a.scn")) tellings.Nothing))
 unfolding clap_on_literals
 complete_passes = (refl, refl)
 

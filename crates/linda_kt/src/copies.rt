@@ -132,8 +132,8 @@ struct Stamps {
     journal: Option<Stamp>,
 }
 
-/// Copies the store in the file, at a moment at which nothing writes it. Nothing of the file is changed, and where it is
-/// not copied nothing is left behind.
+/// Copies the store in the file, at a moment at which nothing writes it. Nothing of the file is changed, and where it
+/// is not copied nothing is left behind.
 pub fn copy_aside(rt: &HostRuntime, path: &str) -> Result<StoreCopy, ShowError> {
     // As the store does it: a log lies where a link leads.
     let path = fs::canonicalize(rt, path).map_err(read_fault)?;

@@ -1,9 +1,9 @@
 //! A store under a name with no parameter, for those who open it.
 //!
-//! The program is written for a store in SQL over any disk, `SqlStore<D>`, and its process calls it at that of files. Where
-//! the prover looks at that call, it compares what makes a store of such a disk once for each trait that names the store.
-//! With one it ends; with two it comes to its limit of steps. So the traits of the opener name a holder, and one trait
-//! alone says which store that holds.
+//! The program is written for a store in SQL over any disk, `SqlStore<D>`, and its process calls it at that of files.
+//! Where the prover looks at that call, it compares what makes a store of such a disk once for each trait that names
+//! the store. With one it ends; with two it comes to its limit of steps. So the traits of the opener name a holder,
+//! and one trait alone says which store that holds.
 //! Cited by files.rt, program.rt; whoever calls the trait `Carries` or `Opens` or `Shows` or `Texts`.
 ghost use Rattle.std.specs.Prelude.{◌≡◌, Result};
 ghost use Rattle.linda_kt.specs.Holding.{GivesHeld};

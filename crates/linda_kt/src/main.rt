@@ -1,9 +1,9 @@
-//! The program: `linda_kt replay` reads a scenario, from a file or standard input, makes its steps and writes the report
-//! to standard output. `linda_kt run` runs one by a thread for each node, several times where that is asked for, or with
-//! random faults. With `--store FILE` checkpoints are kept in a file. `linda_kt resume --store FILE` and
-//! `linda_kt run --resume --store FILE` go on from such a file after a stop, and `linda_kt migrate --store FILE` carries
-//! one of the version before over. `linda_kt check` reads a scenario alone, and `linda_kt explain NUMBER` says what a
-//! number means.
+//! The program: `linda_kt replay` reads a scenario, from a file or standard input, makes its steps and writes the
+//! report to standard output. `linda_kt run` runs one by a thread for each node, several times where that is asked for,
+//! or with random faults. With `--store FILE` checkpoints are kept in a file. `linda_kt resume --store FILE` and
+//! `linda_kt run --resume --store FILE` go on from such a file after a stop, and `linda_kt migrate --store FILE`
+//! carries one of the version before over. `linda_kt check` reads a scenario alone, and `linda_kt explain NUMBER` says
+//! what a number means.
 //!
 //! - Contract: `run_program`, clause `told`: words without a fault do their command over the store that they name, and
 //!   the exit status says how it ended; what `linda_kt` writes is what that command may write.

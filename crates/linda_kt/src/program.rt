@@ -31,8 +31,8 @@ use std::sync::Wait;
 use std::thread::Threads;
 
 /// Runs the program as `run_arguments` does, by an opener of holders of stores, and says nothing of it. The contract is
-/// that of `run_arguments` for `Holding`: at the types of a process it is too large to be looked at, and the process wants
-/// nothing of it.
+/// that of `run_arguments` for `Holding`: at the types of a process it is too large to be looked at, and the process
+/// wants nothing of it.
 pub fn run_process<
     D: Alter + Drop + Send,
     H: Holds<SqlStore<D>>,

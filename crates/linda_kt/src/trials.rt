@@ -15,8 +15,8 @@ use kt_trials::{Chaos, MAX_TIMES};
 /// them is seldom too long.
 pub const MAX_CHAOS: u32 = 10_000;
 
-/// The task of so many runs. They have no file, no journal and no random faults: each goes over a fresh store in memory,
-/// and of its report is told alone how often it came.
+/// The task of so many runs. They have no file, no journal and no random faults: each goes over a fresh store in
+/// memory, and of its report is told alone how often it came.
 pub(crate) fn repeated_of<'a>(times: &str, options: &ArgMatches<'a>) -> Result<Task<'a>, Misfit>
     ensures { told_as task_of result ≡ repeated_of times.now (rows_of (found_of options.now)) }
 {
