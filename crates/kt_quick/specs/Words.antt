@@ -1,5 +1,5 @@
 -- The words that the program knows, and how it ends by them.
--- Cited by Words, program.rt, `program::run_words`.
+-- Cited by Words, program.rt, `program::run_arguments`, `program::run_words`.
 use Rattle.std.specs.Prelude.{◌≡◌, ℕ, Bool, false, ◌&&◌, ◌||◌, if◌then◌else◌, List, [], ◌∷◌, Option, None, Some, codes}
 use Rattle.kt_scene.specs.Outside.{Reader, Writer}
 use Rattle.kt_run.specs.declared.running.Output.TheVariants as outputs

@@ -1,8 +1,8 @@
 //! What the program does with its words and its three streams.
 //! Cited by no other file of crates/.
-ghost use Rattle.std.specs.Prelude.{◌≡◌, ◌⊎◌, false, IfOk, IsErr};
+ghost use Rattle.std.specs.Prelude.{◌≡◌, ◌⊎◌, ◌||◌, codes, false, IfOk, IsErr};
 ghost use Rattle.std.specs.Vec.Iter.{into_iter_items};
-ghost use Rattle.kt_command.specs.Command.{texts, words_behind};
+ghost use Rattle.kt_command.specs.Command.{is_word, texts, words_behind};
 ghost use Rattle.kt_quick.specs.Words.{IsQuickStatus, ask_for_words, command_asked, command_of_one};
 ghost use Rattle.kt_quick.specs.Words.{command_of_three, command_of_two};
 
@@ -158,10 +158,24 @@ fn ask_for_words(words: &[&str]) -> bool
     ensures { result ≡ ask_for_words (texts words.now) }
 {
     match words {
-        [_, flag] => *flag == "--explain",
-        [_, first, second] => *first == "--explain" || *second == "--explain",
+        [_, flag] => asks_for_words(flag),
+        [_, first, second] => one_asks_for_words(first, second),
         _ => false,
     }
+}
+
+/// Whether one of two flags asks for an explanation.
+fn one_asks_for_words(first: &str, second: &str) -> bool
+    ensures { result ≡ is_word first.now (codes "--explain") || is_word second.now (codes "--explain") }
+{
+    asks_for_words(first) || asks_for_words(second)
+}
+
+/// Whether the flag asks for an explanation.
+fn asks_for_words(flag: &str) -> bool
+    ensures { result ≡ is_word flag.now (codes "--explain") }
+{
+    flag == "--explain"
 }
 
 /// The command that one word names. In memory there is nothing to go on from.
