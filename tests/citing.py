@@ -18,7 +18,7 @@ from sources import CRATES, ROOT, files, text_of
 
 # Crates that show how others are used. They are no reason for a line: else an example more would change the files that
 # it shows, and all above them would have to be proved anew.
-EXAMPLES = {"kt_example_file", "kt_example_seats", "kt_first_uses"}
+EXAMPLES = {"kt_example_file", "kt_first_uses"}
 # Names of one crate in a line; of more the rest is counted.
 MOST = 24
 WIDTH = {".rt": 120, ".antt": 120}
