@@ -21,15 +21,19 @@ mod progress;
 mod trials;
 mod words;
 
-use crate::files::Files;
+use crate::copies::ShowError;
+use crate::files::{Files, OldFile, StoreInFile};
+use crate::holding::Holds;
 use crate::progress::run_with_progress;
-use kt_command::Terminals;
+use kt_command::{Carries, Opens, Shows, Terminals, Texts};
 use kt_scene::{Sink, Source};
-use std::env;
+use kt_sql::{SqlOpenError, SqlStore};
+use sqlite::{Alter, File, FileStore};
 use std::io::{IsTerminal, Write};
 use std::process::ExitCode;
 use std::sync::Wait;
 use std::thread::Threads;
+use std::{env, fs, io};
 
 fn main(rt: HostRuntime) -> ExitCode {
     let terminals = Terminals {
@@ -52,10 +56,31 @@ pub(crate) fn run<T: Threads + Wait + Sync, E: Write>(
     terminals: Terminals,
     errors: &mut E,
 ) -> u8 {
+    run_by::<FileStore<File>, StoreInFile, Files<'_>, T, E>(
+        Files::new(rt),
+        rt,
+        threads,
+        terminals,
+        errors,
+    )
+}
+
+/// Runs it by an opener of holders of stores. It stands apart from `run`, so that the prover looks at the types of the
+/// streams in one call, and at that of the disk in another.
+fn run_by<
+    D: Alter + Drop + Send,
+    H: Holds<SqlStore<D>>,
+    O: Opens<H, SqlOpenError>
+        + Carries<OldFile, SqlOpenError>
+        + Shows<H, ShowError>
+        + Texts<fs::File, io::Error>,
+    T: Threads + Wait + Sync,
+    E: Write,
+>(opener: O, rt: &HostRuntime, threads: &T, terminals: Terminals, errors: &mut E) -> u8 {
     let mut reader = Source::new(rt.stdin());
     let mut writer = Sink::new(rt.stdout());
-    program::run_process(
-        Files::new(rt),
+    program::run_process::<D, H, OldFile, ShowError, fs::File, io::Error, O, T, _, _, E>(
+        opener,
         threads,
         rt.alloc(),
         env::args(rt),
