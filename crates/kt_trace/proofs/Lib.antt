@@ -1,0 +1,4 @@
+pub mod Tracing
+pub mod Sending
+pub mod Refused
+pub mod Stepped
