@@ -1,4 +1,3 @@
 pub mod Escaping
 pub mod Elements
 pub mod Places
-pub mod Marks

@@ -1,11 +1,12 @@
 //! What the marks and the lines of a picture mean.
 
-use crate::arrow::{Arrow, Kind};
 use crate::element::{Point, push_box, push_label, push_line, push_use};
 use crate::life::push_piece;
-use crate::mark::Mark;
+use crate::row::symbol_of;
 use crate::sheet::{MARGIN, Sheet, text_width};
+use crate::way::classes_of;
 use kt_state::Mode;
+use kt_story::{Arrow, Kind, Mark};
 use std::alloc::AllocError;
 
 /// The height of a line of the legend.
@@ -151,7 +152,7 @@ pub(crate) fn push_entry(
 
 fn push_symbol(out: &mut Vec<u8>, at: Point, symbol: Symbol) -> Result<(), AllocError> {
     match symbol {
-        Symbol::Mark(mark) => push_use(out, mark.name(), right(at, 8)),
+        Symbol::Mark(mark) => push_use(out, symbol_of(mark), right(at, 8)),
         Symbol::Crossed => {
             let corner = Point {
                 x: at.x,
@@ -166,7 +167,7 @@ fn push_symbol(out: &mut Vec<u8>, at: Point, symbol: Symbol) -> Result<(), Alloc
             };
             push_piece(out, mode, top, at.y.saturating_add(9))
         }
-        Symbol::Way(kind) => push_line(out, kind.classes(), at, right(at, 30)),
+        Symbol::Way(kind) => push_line(out, classes_of(kind), at, right(at, 30)),
         Symbol::LostWay => push_line(out, b"request m l", at, right(at, 30)),
         Symbol::OpenWay => push_line(out, b"request m way", at, right(at, 30)),
     }

@@ -8,31 +8,26 @@
 //! - Begin in: `picture.rt`, then `mark.rt` and `plane.rt` for what stands where, and `words.rt` for what is said.
 #![tactic(auto)]
 
-mod arrow;
+mod band;
 mod element;
 mod escape;
 mod laws;
 mod legend;
 mod life;
-mod mark;
 mod picture;
 mod plane;
 mod row;
 mod sheet;
-mod story;
 mod style;
+mod title;
 mod way;
-mod words;
 
-pub use arrow::{Arrow, Kind, arrows};
 pub use element::{Point, push_box, push_label, push_line, push_use};
 pub use escape::push_escaped;
 pub use laws::{
     columns_stand_side_by_side, rows_stand_one_below_the_other, what_is_escaped_has_no_markup,
 };
 pub use life::{Stretch, mode_before};
-pub use mark::{Mark, mark_of};
-pub use picture::picture;
+pub use picture::{Form, picture};
 pub use plane::{BAND, BLOCK, GAP, NARROWEST, NUMBERS, Plane, ROW, SHORT, TITLE, WIDE, WIDEST};
-pub use story::{Blame, Story};
-pub use words::{Words, words_of};
+pub use title::{refused_text, tally_of, title_of};

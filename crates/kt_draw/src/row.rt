@@ -2,49 +2,44 @@
 
 use crate::element::{Point, push_label, push_use};
 use crate::escape::push_escaped;
-use crate::mark::{Mark, mark_of};
 use crate::plane::NUMBERS;
 use crate::sheet::Sheet;
-use crate::story::Story;
-use crate::words::{Words, words_of};
+use kt_story::{Mark, Story, Words, words_of};
 use kt_trace::TracedStep;
 use kt_tuple::writing::push_number;
 use std::alloc::{AllocError, Global};
 
-/// The arrow between what was asked and what was got, as XML has it.
-const GOT: &[u8] = b" &#8594; ";
-
-impl Mark {
-    /// The name of its symbol.
-    pub(crate) fn name(self) -> &'static [u8] {
-        match self {
-            Mark::Survives => b"kept",
-            Mark::Lost => b"lost",
-            Mark::Asks => b"ask",
-            Mark::Waits => b"wait",
-            Mark::Hears => b"got",
-            Mark::Holds => b"hold",
-            Mark::Drops => b"gone",
-            Mark::Reads => b"read",
-            Mark::Tentative => b"tent",
-            Mark::Permanent => b"perm",
-            Mark::GivenUp => b"drop",
-            Mark::Yes => b"yes",
-            Mark::No => b"no",
-            Mark::Fails => b"fail",
-            Mark::Restarts => b"restart",
-            Mark::Joins => b"join",
-            Mark::GoesBack => b"undo",
-        }
+/// The name of the mark's symbol.
+pub(crate) fn symbol_of(mark: Mark) -> &'static [u8]
+    ensures { result.now ≡ symbol_of mark }
+{
+    match mark {
+        Mark::Survives => b"kept",
+        Mark::Lost => b"lost",
+        Mark::Asks => b"ask",
+        Mark::Waits => b"wait",
+        Mark::Hears => b"got",
+        Mark::Holds => b"hold",
+        Mark::Drops => b"gone",
+        Mark::Reads => b"read",
+        Mark::Tentative => b"tent",
+        Mark::Permanent => b"perm",
+        Mark::GivenUp => b"drop",
+        Mark::Yes => b"yes",
+        Mark::No => b"no",
+        Mark::Fails => b"fail",
+        Mark::Restarts => b"restart",
+        Mark::Joins => b"join",
+        Mark::GoesBack => b"undo",
     }
+}
 
-    /// Whether it says what matters: then it stands beside the text too, and the text stands out.
-    pub(crate) fn is_telling(self) -> bool {
-        !matches!(
-            self,
-            Mark::Asks | Mark::Waits | Mark::Hears | Mark::Holds | Mark::Drops | Mark::Reads
-        )
-    }
+/// Whether the mark says what matters: then it stands beside the text too, and the text stands out.
+fn is_telling(mark: Mark) -> bool {
+    !matches!(
+        mark,
+        Mark::Asks | Mark::Waits | Mark::Hears | Mark::Holds | Mark::Drops | Mark::Reads
+    )
 }
 
 /// The row's number, its mark, the mark once more where it tells, and its text.
@@ -59,16 +54,16 @@ pub(crate) fn push_row(
         return Ok(());
     };
     let point = sheet.point(row.node, place);
-    let mark = mark_of(row, story.survives(row));
+    let mark = story.mark(row);
     push_step_number(out, row.number, point.y.saturating_add(4))?;
-    push_use(out, mark.name(), point)?;
+    push_use(out, symbol_of(mark), point)?;
     let x = sheet.text_x();
-    if mark.is_telling() {
+    if is_telling(mark) {
         let beside = Point {
             x: x.saturating_sub(14),
             y: point.y,
         };
-        push_use(out, mark.name(), beside)?;
+        push_use(out, symbol_of(mark), beside)?;
     }
     let words = words_of(alloc, story, row)?;
     let at = Point {
@@ -91,7 +86,7 @@ pub(crate) fn push_step_number(out: &mut Vec<u8>, number: u64, y: u64) -> Result
 fn row_class(story: &Story, row: &TracedStep, mark: Mark) -> &'static [u8] {
     if story.is_lost(row) {
         b"t s"
-    } else if mark.is_telling() {
+    } else if is_telling(mark) {
         b"t"
     } else {
         b"q"
@@ -117,10 +112,6 @@ fn push_words(
         out.extend_from_slice(b"<tspan class=\"s\">")?;
     }
     push_escaped(out, &words.said)?;
-    if let Some(got) = &words.got {
-        out.extend_from_slice(GOT)?;
-        push_escaped(out, got)?;
-    }
     if is_split {
         out.extend_from_slice(b"</tspan>")?;
         push_escaped(out, &words.reason)?;

@@ -1,8 +1,8 @@
 //! Messages as lines.
 
-use crate::arrow::Arrow;
 use crate::element::Point;
 use crate::sheet::Sheet;
+use kt_story::{Arrow, Kind};
 use kt_tuple::writing::push_number;
 use std::alloc::AllocError;
 
@@ -74,7 +74,7 @@ fn push_way(
     to: Point,
 ) -> Result<(), AllocError> {
     out.extend_from_slice(b"<path class=\"")?;
-    out.extend_from_slice(arrow.kind.classes())?;
+    out.extend_from_slice(classes_of(arrow.kind))?;
     if arrow.lost {
         out.extend_from_slice(b" l")?;
     }
@@ -88,4 +88,18 @@ fn push_way(
     out.push(b' ')?;
     push_number(out, to.y)?;
     out.extend_from_slice(b"\"/>\n")
+}
+
+/// The classes of the line of such a message.
+pub(crate) fn classes_of(kind: Kind) -> &'static [u8] {
+    match kind {
+        Kind::Request => b"request m",
+        Kind::Reply => b"reply m",
+        Kind::CheckAsk => b"ask c",
+        Kind::CheckVote => b"vote c",
+        Kind::CheckVerdict => b"verdict c",
+        Kind::RollAsk => b"ask r",
+        Kind::RollVote => b"vote r",
+        Kind::RollVerdict => b"verdict r",
+    }
 }

@@ -156,3 +156,13 @@ trace_from lines number s [] = []
 trace_from lines number s (step ∷ later) =
     entry_of number (line_of lines (number - 1)) s step (step_result s step)
     ∷ onward (step_result s step) (λ new. trace_from lines (number + 1) new later)
+
+-- what comes behind a step that is made; one that is refused changes nothing
+abbrev pub gone_on : Result State StepError → State → (State → State) → State
+gone_on (Ok new) old later = later new
+gone_on (Err cause) old later = old
+
+-- the state behind these steps, or behind those before the first that is refused
+unfoldable pub behind : State → List Step → State
+behind s [] = s
+behind s (step ∷ later) = gone_on (step_result s step) s (λ new. behind new later)

@@ -4,7 +4,7 @@
 ghost use Rattle.std.specs.Prelude.{◌≡◌, IfErr, IfOk, IsTrue, Ok, false};
 ghost use Rattle.kt_model.specs.Effect.{step_result};
 ghost use Rattle.kt_model.specs.Reached.{next_state, opening};
-ghost use Rattle.kt_trace.specs.Rows.{entry_of, line_of, trace_from};
+ghost use Rattle.kt_trace.specs.Rows.{behind, entry_of, line_of, trace_from};
 ghost use Rattle.kt_trace.specs.auxiliary.Entries.{is_want};
 
 use crate::glimpse::Glimpse;
@@ -48,6 +48,7 @@ pub fn trace_on(
     requires honest { IsTrue world.old.is_honest }
     ensures entries { IfOk result (λ entries.
         entries.items ≡ trace_from lines.now 1 world.old.state steps.now) }
+    ensures world { IfOk result (λ _. world.new.state ≡ behind world.old.state steps.now) }
 {
     let mut entries = Vec::new(alloc);
     for (place, step) in steps.iter().enumerate() {

@@ -1,8 +1,8 @@
 //! What marks a step in a picture.
 
 ghost use Rattle.std.specs.Prelude.{◌≡◌, IsTrue};
-ghost use Rattle.kt_draw.specs.Marks.{act_mark, arrival_mark, came_mark, mark_of, note_mark, saving_mark, turn_mark};
-ghost use Rattle.kt_draw.specs.declared.mark.Mark.TheVariants as marks;
+ghost use Rattle.kt_story.specs.Marks.{act_mark, arrival_mark, came_mark, mark_of, note_mark, saving_mark, turn_mark};
+ghost use Rattle.kt_story.specs.declared.mark.Mark.TheVariants as marks;
 
 use kt_core::Step;
 use kt_history::{Note, What};

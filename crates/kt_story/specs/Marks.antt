@@ -15,8 +15,8 @@ use Rattle.kt_trace.specs.declared.traced.Ruling.{Ruling}
 use Rattle.kt_trace.specs.declared.traced.Saving.{Saving}
 use Rattle.kt_trace.specs.declared.traced.Saving.TheVariants as savings
 use Rattle.kt_trace.specs.declared.traced.TracedStep.{TracedStep}
-use Rattle.kt_draw.specs.declared.mark.Mark.{Mark}
-use Rattle.kt_draw.specs.declared.mark.Mark.TheVariants as marks
+use Rattle.kt_story.specs.declared.mark.Mark.{Mark}
+use Rattle.kt_story.specs.declared.mark.Mark.TheVariants as marks
 
 -- a request or an answer that is not kept back is gone, and all that comes to a node that is down
 abbrev pub came_to : Option (NodeId × Message) → Mark

@@ -131,19 +131,3 @@ fn is_lost(story: &Story, message: &Message) -> bool {
         _ => false,
     }
 }
-
-impl Kind {
-    /// The classes of its line.
-    pub(crate) fn classes(self) -> &'static [u8] {
-        match self {
-            Kind::Request => b"request m",
-            Kind::Reply => b"reply m",
-            Kind::CheckAsk => b"ask c",
-            Kind::CheckVote => b"vote c",
-            Kind::CheckVerdict => b"verdict c",
-            Kind::RollAsk => b"ask r",
-            Kind::RollVote => b"vote r",
-            Kind::RollVerdict => b"verdict r",
-        }
-    }
-}
