@@ -1,4 +1,4 @@
-//! What a machine lends of its nodes and of what is on its way, and a world of its store.
+//! What a machine lends of its nodes and of what is on its way, and a world of its nodes and of its store.
 //! Cited by planning.rt, read_sets.rt, world.rt; other crates.
 
 ghost use Rattle.std.specs.Prelude.{◌≡◌, length, slice_get, IfOk};
@@ -102,6 +102,13 @@ impl Machine {
 }
 
 impl<S: CkptStore> World<S> {
+    /// The node, in whatever mode it is; `None` for one that is not in the scene.
+    pub fn node(&self, id: NodeId) -> Option<&Node>
+        ensures { option_map (λ n. n.now.node) result ≡ node self.now.state id }
+    {
+        self.machine.node_at(id)
+    }
+
     /// Its store, to look at what is stored. Nothing can be written by it.
     pub fn store(&self) -> &S
         ensures content { S.content result.now ≡ self.now.state.content }

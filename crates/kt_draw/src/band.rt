@@ -57,4 +57,3 @@ fn push_band(out: &mut Vec<u8>, sheet: Sheet, top: u64) -> Result<(), AllocError
     let x = NUMBERS - 12;
     push_label(out, b"e", Point { x, y }, b"step")
 }
-

@@ -131,9 +131,7 @@ fn legend_of(
 fn is_used(story: &Story, rows: &[TracedStep], drawing: &Drawing, symbol: Symbol) -> bool {
     let sheet = drawing.sheet;
     match symbol {
-        Symbol::Mark(mark) => rows
-            .iter()
-            .any(|row| story.mark(row) == mark),
+        Symbol::Mark(mark) => rows.iter().any(|row| story.mark(row) == mark),
         Symbol::Crossed => drawing.crossed.iter().any(|(_, all)| !all.is_empty()),
         Symbol::Life(mode) => {
             let before = rows_before(story, sheet);
@@ -203,7 +201,9 @@ fn push_root(out: &mut Vec<u8>, sheet: Sheet, height: u64, form: Form) -> Result
     let width = sheet.width();
     match form {
         Form::Alone => {
-            out.extend_from_slice(b"<svg xmlns=\"http://www.w3.org/2000/svg\" id=\"picture\" width=\"")?;
+            out.extend_from_slice(
+                b"<svg xmlns=\"http://www.w3.org/2000/svg\" id=\"picture\" width=\"",
+            )?;
             push_number(out, width)?;
             out.extend_from_slice(b"\" height=\"")?;
             push_number(out, height)?;
@@ -254,7 +254,9 @@ fn push_boxes_of(out: &mut Vec<u8>, sheet: Sheet) -> Result<(), AllocError> {
     push_number(out, ROW)?;
     out.extend_from_slice(b"\" data-end=\"")?;
     push_number(out, sheet.bottom())?;
-    out.extend_from_slice(b"\"/>\n<rect id=\"here\" class=\"o sc\" stroke-width=\"2\" x=\"1\" width=\"")?;
+    out.extend_from_slice(
+        b"\"/>\n<rect id=\"here\" class=\"o sc\" stroke-width=\"2\" x=\"1\" width=\"",
+    )?;
     push_number(out, width.saturating_sub(2))?;
     out.extend_from_slice(b"\" height=\"0\"/>\n")
 }

@@ -9,11 +9,7 @@ use kt_tuple::writing::push_number;
 use std::alloc::{AllocError, Global};
 
 /// How many workers, shards and steps there are, or which steps, where those before the first are not shown.
-pub fn title_of(
-    alloc: Global,
-    story: &Story,
-    first: u64,
-) -> Result<Vec<u8>, AllocError> {
+pub fn title_of(alloc: Global, story: &Story, first: u64) -> Result<Vec<u8>, AllocError> {
     let mut out = Vec::new(alloc);
     push_count(&mut out, u64::from(story.workers()), b"worker")?;
     out.extend_from_slice(b", ")?;
@@ -79,4 +75,3 @@ pub fn refused_text(alloc: Global, refused: Refused) -> Result<Vec<u8>, AllocErr
     }
     Ok(text)
 }
-

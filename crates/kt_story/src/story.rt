@@ -165,10 +165,7 @@ impl Story {
 }
 
 /// Puts the rows of the entries behind the others, and gives the refusal that ends them.
-fn split(
-    rows: &mut Vec<TracedStep>,
-    entries: Vec<Traced>,
-) -> Result<Option<Refused>, AllocError>
+fn split(rows: &mut Vec<TracedStep>, entries: Vec<Traced>) -> Result<Option<Refused>, AllocError>
     ensures rows { OnOk result (rows.new.items ≡ rows.old.items ++ made_rows entries.items) }
     ensures refused { IfOk result (λ refused. refused ≡ last_refused None entries.items) }
 {

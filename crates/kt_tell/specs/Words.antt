@@ -186,6 +186,16 @@ abbrev pub ruling_text : Option Ruling → List ℕ
 ruling_text None = []
 ruling_text (Some ruling) = codes ", instance " ++ decimal ruling.instance ++ gets_text ruling.yes
 
+abbrev pub back_by : Option Note → List ℕ
+back_by None = []
+back_by (Some (notes.Act a)) = []
+back_by (Some (notes.Cut p keep)) = codes ", goes back to its checkpoint"
+
+-- a node that gives up what it did goes back to its checkpoint; of one that fails the step has said it
+abbrev pub back_text : Step → Option Note → List ℕ
+back_text (Fail p) note = []
+back_text step note = back_by note
+
 abbrev pub from_down : Mode → List ℕ
 from_down modes.Up = codes ", is up"
 from_down modes.Held = codes ", is held"
@@ -241,8 +251,8 @@ undone_text note n = if n == 0 then [] else undone_by note n
 -- each part stands where there is something to say
 abbrev pub tail_text : TracedStep → List ℕ
 tail_text row =
-    begun_text row.begun ++ saving_text row.saving ++ ruling_text row.ruling ++ turn_text row.was row.is
-    ++ flat_map sent_text row.sent ++ undone_text row.note row.undone
+    begun_text row.begun ++ saving_text row.saving ++ ruling_text row.ruling ++ back_text row.step row.note
+    ++ turn_text row.was row.is ++ flat_map sent_text row.sent ++ undone_text row.note row.undone
 
 -- ---- a line
 

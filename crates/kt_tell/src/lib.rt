@@ -22,6 +22,6 @@ pub use choice::Choice;
 pub use heads::{push_head, push_instance};
 pub use lines::step_lines;
 pub use rows_json::json_of;
-pub use tails::{push_begun, push_one, push_ruling, push_undone};
+pub use tails::{push_begun, push_one, push_ruling, push_tail, push_undone};
 pub use telling::{Form, write_trace};
 pub use words::words_of;

@@ -4,12 +4,13 @@
 ghost use Rattle.std.specs.Prelude.{◌≡◌, ◌++◌, OnOk};
 ghost use Rattle.std.specs.List.{flat_map};
 ghost use Rattle.kt_tuple.specs.Spelling.{node_text};
-ghost use Rattle.kt_tell.specs.Words.{begun_text, from_down, ruling_text, saving_text, sent_text, services_text};
+ghost use Rattle.kt_tell.specs.Words.{back_text, begun_text, from_down, ruling_text, saving_text, sent_text, services_text};
 ghost use Rattle.kt_tell.specs.Words.{tail_text, turn_text, undone_text};
 ghost use Rattle.std.specs.Option.{option_copied};
 
 use crate::heads::push_instance;
 use kt_history::Note;
+use kt_scenario::Step;
 use kt_state::{Message, Mode};
 use kt_trace::{Ruling, Saving, TracedStep};
 use kt_tuple::NodeId;
@@ -17,12 +18,13 @@ use kt_tuple::writing::push_number;
 use std::alloc::AllocError;
 
 /// Puts what came of the step behind the text: each part stands where there is something to say.
-pub(crate) fn push_tail(out: &mut Vec<u8>, row: &TracedStep) -> Result<(), AllocError>
+pub fn push_tail(out: &mut Vec<u8>, row: &TracedStep) -> Result<(), AllocError>
     ensures { OnOk result (out.new.items ≡ out.old.items ++ tail_text row.now) }
 {
     push_begun(out, row.begun)?;
     push_saving(out, row.saving)?;
     push_ruling(out, row.ruling)?;
+    push_back(out, row.step, row.note.as_ref())?;
     push_turn(out, row.was, row.is)?;
     push_sent(out, row.sent.messages())?;
     push_undone(out, row.note.as_ref(), row.undone)
@@ -65,6 +67,16 @@ pub fn push_ruling(out: &mut Vec<u8>, ruling: Option<Ruling>) -> Result<(), Allo
         out.extend_from_slice(b" gets yes")
     } else {
         out.extend_from_slice(b" gets no")
+    }
+}
+
+/// That the node goes back to its checkpoint, where it gives up what it did; of one that fails the step has said it.
+fn push_back(out: &mut Vec<u8>, step: Step, note: Option<&Note>) -> Result<(), AllocError>
+    ensures { OnOk result (out.new.items ≡ out.old.items ++ back_text step (option_copied note.entry)) }
+{
+    match (step, note) {
+        (Step::Fail { .. }, _) | (_, None | Some(Note::Act(_))) => Ok(()),
+        (_, Some(Note::Cut { .. })) => out.extend_from_slice(b", goes back to its checkpoint"),
     }
 }
 

@@ -46,7 +46,7 @@ const SHARD_FAILED: &str = "1 w1 asks s1: out (\"a\", 1)
 9 w1 hears that s1 votes yes (instance 1), votes yes to s1
 10 s1 hears that w1 votes yes (instance 1)
 11 s1 decides, instance 1 gets yes, is up, tells w1
-12 w1 hears from s1 that the verdict is yes (instance 1), is up, tells s1
+12 w1 hears from s1 that the verdict is yes (instance 1), goes back to its checkpoint, is up, tells s1
 13 w1 asks s1: out (\"a\", 1)
 14 s1 hears from w1 that the verdict is yes (instance 1)
 15 s1 hears w1: out (\"a\", 1)

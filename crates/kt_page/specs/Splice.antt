@@ -1,0 +1,11 @@
+-- A change of lines.
+use Rattle.std.specs.Prelude.{ℕ, ◌+◌, List, ◌++◌, map, take, drop}
+use Rattle.std.specs.Vec.{Vec}
+
+-- at this place so many lines are taken out, and these are put there
+abbrev pub put : {A : Type 0} → ℕ → ℕ → List A → List A → List A
+put at gone come lines = take at lines ++ come ++ drop (at + gone) lines
+
+-- the characters of each line
+abbrev pub text_of : List (Vec ℕ) → List (List ℕ)
+text_of lines = map (λ line. line.items) lines

@@ -1,0 +1,25 @@
+//! A page in which a person goes through a scenario step by step: the picture, the state after each step, and the list
+//! of all steps.
+//!
+//! - Contract: text stands in the page without signs of markup, and in the script's data without `<` (`push_escaped` of
+//!   kt_draw, `push_string`). The lines that a change leaves are the new ones (`splice`, clause `put`).
+//! - Stands on: kt_tuple, kt_history, kt_worker, kt_shard, kt_store, kt_state, kt_core, kt_trace, kt_tell, kt_story,
+//!   kt_draw
+//! - Begin in: `page.rt`, then `watch.rt` for what changes from step to step, `cells.rt` for what is shown of a world,
+//!   and `fate.rt` for what became of services. `look.rt` and `script.rt` are constant text.
+#![tactic(auto)]
+
+mod cells;
+mod fate;
+mod json;
+mod list;
+mod look;
+mod message;
+mod node_cells;
+mod page;
+mod script;
+mod splice;
+mod table;
+mod watch;
+
+pub use page::page;
