@@ -1,4 +1,8 @@
 //! What the marks and the lines of a picture mean.
+//! Cited by picture.rt.
+
+ghost use Rattle.std.specs.Prelude.{OnOk};
+ghost use Rattle.std.specs.Io.{StartsWith};
 
 use crate::element::{Point, push_box, push_label, push_line, push_use};
 use crate::life::push_piece;
@@ -141,7 +145,9 @@ pub(crate) fn push_entry(
     at: Point,
     symbol: Symbol,
     text: &[u8],
-) -> Result<(), AllocError> {
+) -> Result<(), AllocError>
+    ensures { OnOk result (StartsWith out.new.items out.old.items) }
+{
     push_symbol(out, at, symbol)?;
     let beside = Point {
         x: at.x.saturating_add(symbol.width()).saturating_add(4),
@@ -150,7 +156,9 @@ pub(crate) fn push_entry(
     push_label(out, b"t", beside, text)
 }
 
-fn push_symbol(out: &mut Vec<u8>, at: Point, symbol: Symbol) -> Result<(), AllocError> {
+fn push_symbol(out: &mut Vec<u8>, at: Point, symbol: Symbol) -> Result<(), AllocError>
+    ensures { OnOk result (StartsWith out.new.items out.old.items) }
+{
     match symbol {
         Symbol::Mark(mark) => push_use(out, symbol_of(mark), right(at, 8)),
         Symbol::Crossed => {

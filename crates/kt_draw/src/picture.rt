@@ -1,11 +1,16 @@
 //! The whole picture, from its root element to the end of that.
+//! Cited by other crates.
+
+ghost use Rattle.std.specs.Prelude.{◌≡◌, IfOk, OnOk, length};
+ghost use Rattle.std.specs.Io.{StartsWith};
+ghost use Rattle.kt_draw.specs.Rows.{HasRows, rows_from};
 
 use crate::band::{push_bands, push_rules};
 use crate::element::{Point, push_label, push_use};
 use crate::legend::{ENTRIES, Flow, LINE, Symbol, push_entry};
 use crate::life::{Stretch, crossed, mode_before, push_boxes, push_life};
 use crate::plane::{Plane, ROW};
-use crate::row::{push_row, push_step_number};
+use crate::row::{push_rows, push_step_number};
 use crate::sheet::{MARGIN, NODES, Sheet};
 use crate::style::STYLE;
 use crate::title::{refused_text, tally_of, title_of};
@@ -38,14 +43,24 @@ pub enum Form {
     InPage,
 }
 
-/// The picture of the story from the step of this number on, as SVG. `AllocError` where memory is wanting.
-pub fn picture(
-    alloc: Global,
-    story: &Story,
-    first: u64,
-    form: Form,
-) -> Result<Vec<u8>, AllocError> {
+/// The most rows that a picture is drawn with: more are a matter of choosing them.
+pub const MOST_ROWS: u64 = 1000;
+
+/// How many rows the picture of the story has, from the step of this number on.
+pub fn row_count(story: &Story, first: u64) -> u64
+    ensures { result ≡ length (rows_from first story.now.rows) }
+{
+    rows_from(story, first).len() as u64
+}
+
+/// The picture of the story from the step of this number on, as SVG: a row for each step, in order. Steps are counted
+/// from 1. `AllocError` where memory is wanting.
+pub fn picture(alloc: Global, story: &Story, first: u64, form: Form) -> Result<Vec<u8>, AllocError>
+    ensures drawn { IfOk result (λ text.
+        HasRows story.now.state.history (rows_from first story.now.rows) text.items) }
+{
     let rows = rows_from(story, first);
+    let first = first.max(1).min(story.rows().len() as u64 + 1);
     let sheet = sheet_of(alloc, story, rows, first)?;
     let drawing = Drawing {
         sheet,
@@ -58,9 +73,12 @@ pub fn picture(
 }
 
 /// The rows from the step of this number on.
-fn rows_from(story: &Story, first: u64) -> &[TracedStep] {
+fn rows_from(story: &Story, first: u64) -> &[TracedStep]
+    ensures { result.now ≡ rows_from first story.now.rows }
+{
     let rows = story.rows();
-    let (_, drawn) = rows.split_at((first as usize).saturating_sub(1).min(rows.len()));
+    let before = first.saturating_sub(1).min(rows.len() as u64);
+    let (_, drawn) = rows.split_at(before as usize);
     drawn
 }
 
@@ -160,12 +178,29 @@ fn push_all(
     rows: &[TracedStep],
     drawing: &Drawing,
     form: Form,
+) -> Result<(), AllocError>
+    ensures { OnOk result (HasRows story.now.state.history rows.now out.new.items) }
+{
+    let (legend, last) = legend_of(alloc, story, rows, drawing)?;
+    let height = last.saturating_add(LINE);
+    push_front(alloc, out, story, rows, drawing, height, form)?;
+    push_rows(alloc, out, drawing.sheet, story, rows)?;
+    push_behind(alloc, out, story, drawing, &legend, form)
+}
+
+/// What stands before the rows: names, style, title, and the lines of nodes and messages.
+fn push_front(
+    alloc: Global,
+    out: &mut Vec<u8>,
+    story: &Story,
+    rows: &[TracedStep],
+    drawing: &Drawing,
+    height: u64,
+    form: Form,
 ) -> Result<(), AllocError> {
     let sheet = drawing.sheet;
-    let (legend, last) = legend_of(alloc, story, rows, drawing)?;
     let title = title_of(alloc, story, sheet.first)?;
     let tally = tally_of(alloc, story)?;
-    let height = last.saturating_add(LINE);
     push_root(out, sheet, height, form)?;
     push_names(out, &title, &tally)?;
     push_ground(out, sheet, height)?;
@@ -182,18 +217,40 @@ fn push_all(
     for arrow in &drawing.arrows {
         push_arrow(out, sheet, arrow)?;
     }
-    push_bands(out, sheet)?;
-    for row in rows {
-        push_row(alloc, out, sheet, story, row)?;
+    push_bands(out, sheet)
+}
+
+/// What stands behind the rows: how they end, what a script moves, and the legend.
+fn push_behind(
+    alloc: Global,
+    out: &mut Vec<u8>,
+    story: &Story,
+    drawing: &Drawing,
+    legend: &[(Point, Symbol, &'static str)],
+    form: Form,
+) -> Result<(), AllocError>
+    ensures { OnOk result (StartsWith out.new.items out.old.items) }
+{
+    push_end(alloc, out, drawing.sheet, story)?;
+    match form {
+        Form::Alone => {}
+        Form::InPage => push_moved(out, drawing.sheet)?,
     }
-    push_end(alloc, out, sheet, story)?;
-    if form == Form::InPage {
-        push_boxes_of(out, sheet)?;
-    }
-    for (at, symbol, text) in &legend {
+    push_legend(out, legend)?;
+    out.extend_from_slice(b"</svg>\n")
+}
+
+/// The entries of the legend.
+fn push_legend(
+    out: &mut Vec<u8>,
+    legend: &[(Point, Symbol, &'static str)],
+) -> Result<(), AllocError>
+    ensures { OnOk result (StartsWith out.new.items out.old.items) }
+{
+    for (at, symbol, text) in legend {
         push_entry(out, *at, *symbol, text.as_bytes())?;
     }
-    out.extend_from_slice(b"</svg>\n")
+    Ok(())
 }
 
 /// The begin of the root element.
@@ -246,7 +303,9 @@ fn push_ground(out: &mut Vec<u8>, sheet: Sheet, height: u64) -> Result<(), Alloc
 }
 
 /// The boxes that a script moves, without a height until then.
-fn push_boxes_of(out: &mut Vec<u8>, sheet: Sheet) -> Result<(), AllocError> {
+fn push_moved(out: &mut Vec<u8>, sheet: Sheet) -> Result<(), AllocError>
+    ensures { OnOk result (StartsWith out.new.items out.old.items) }
+{
     let width = sheet.width();
     out.extend_from_slice(b"<rect id=\"later\" class=\"p\" fill-opacity=\".6\" width=\"")?;
     push_number(out, width)?;
@@ -262,12 +321,9 @@ fn push_boxes_of(out: &mut Vec<u8>, sheet: Sheet) -> Result<(), AllocError> {
 }
 
 /// Below the rows: that there is none, or the step that was refused, which ended the story.
-fn push_end(
-    alloc: Global,
-    out: &mut Vec<u8>,
-    sheet: Sheet,
-    story: &Story,
-) -> Result<(), AllocError> {
+fn push_end(alloc: Global, out: &mut Vec<u8>, sheet: Sheet, story: &Story) -> Result<(), AllocError>
+    ensures { OnOk result (StartsWith out.new.items out.old.items) }
+{
     let y = sheet.rows_bottom().saturating_add(ROW - 4);
     if let Some(refused) = story.refused() {
         let x = sheet.text_x();

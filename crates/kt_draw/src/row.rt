@@ -1,4 +1,9 @@
 //! The rows of a picture: the number of the step, its mark in the node's column, and what is said of it.
+//! Cited by legend.rt, picture.rt.
+
+ghost use Rattle.std.specs.Prelude.{◌≡◌, ◌++◌, OnOk};
+ghost use Rattle.std.specs.Io.{StartsWith};
+ghost use Rattle.kt_draw.specs.Rows.{IsDrawnBehind, number_text, row_begin, symbol_of};
 
 use crate::element::{Point, push_label, push_use};
 use crate::escape::push_escaped;
@@ -42,39 +47,65 @@ fn is_telling(mark: Mark) -> bool {
     )
 }
 
-/// The row's number, its mark, the mark once more where it tells, and its text.
-pub(crate) fn push_row(
+/// The rows, one below the other, each once and in order: its number and its mark, and then its text.
+pub(crate) fn push_rows(
+    alloc: Global,
+    out: &mut Vec<u8>,
+    sheet: Sheet,
+    story: &Story,
+    rows: &[TracedStep],
+) -> Result<(), AllocError>
+    ensures { OnOk result (IsDrawnBehind (row_begin sheet story.now.state.history) rows.now out.old.items out.new.items) }
+{
+    for row in rows {
+        push_row_begin(out, sheet, story, row)?;
+        push_row_text(alloc, out, sheet, story, row)?;
+    }
+    Ok(())
+}
+
+/// The number of the row's step, and its mark in the column of its node.
+fn push_row_begin(
+    out: &mut Vec<u8>,
+    sheet: Sheet,
+    story: &Story,
+    row: &TracedStep,
+) -> Result<(), AllocError>
+    ensures { OnOk result (out.new.items ≡ out.old.items ++ row_begin sheet story.now.state.history row.now) }
+{
+    let point = sheet.point(row.node, sheet.above(row.number));
+    push_step_number(out, row.number, point.y.saturating_add(4))?;
+    push_use(out, symbol_of(story.mark(row)), point)
+}
+
+/// The mark once more where it tells, and what is said of the row.
+fn push_row_text(
     alloc: Global,
     out: &mut Vec<u8>,
     sheet: Sheet,
     story: &Story,
     row: &TracedStep,
-) -> Result<(), AllocError> {
-    let Some(place) = sheet.place(row.number) else {
-        return Ok(());
-    };
-    let point = sheet.point(row.node, place);
-    let mark = story.mark(row);
-    push_step_number(out, row.number, point.y.saturating_add(4))?;
-    push_use(out, symbol_of(mark), point)?;
+) -> Result<(), AllocError>
+    ensures { OnOk result (StartsWith out.new.items out.old.items) }
+{
+    let y = sheet.plane.row_y(sheet.above(row.number)).saturating_add(4);
     let x = sheet.text_x();
+    let mark = story.mark(row);
     if is_telling(mark) {
         let beside = Point {
             x: x.saturating_sub(14),
-            y: point.y,
+            y: y.saturating_sub(4),
         };
         push_use(out, symbol_of(mark), beside)?;
     }
     let words = words_of(alloc, story, row)?;
-    let at = Point {
-        x,
-        y: point.y.saturating_add(4),
-    };
-    push_words(out, at, &words, row_class(story, row, mark))
+    push_words(out, Point { x, y }, &words, row_class(story, row, mark))
 }
 
 /// The number of a step, before the columns.
-pub(crate) fn push_step_number(out: &mut Vec<u8>, number: u64, y: u64) -> Result<(), AllocError> {
+pub(crate) fn push_step_number(out: &mut Vec<u8>, number: u64, y: u64) -> Result<(), AllocError>
+    ensures { OnOk result (out.new.items ≡ out.old.items ++ number_text number y) }
+{
     let at = Point { x: NUMBERS - 12, y };
     let alloc = *out.allocator();
     let mut digits = Vec::new(alloc);
@@ -94,12 +125,9 @@ fn row_class(story: &Story, row: &TracedStep, mark: Mark) -> &'static [u8] {
 }
 
 /// The text of a row. Of a service that is lost the reason is not struck through.
-fn push_words(
-    out: &mut Vec<u8>,
-    at: Point,
-    words: &Words,
-    classes: &[u8],
-) -> Result<(), AllocError> {
+fn push_words(out: &mut Vec<u8>, at: Point, words: &Words, classes: &[u8]) -> Result<(), AllocError>
+    ensures { OnOk result (StartsWith out.new.items out.old.items) }
+{
     let is_split = !words.reason.is_empty();
     out.extend_from_slice(b"<text class=\"")?;
     out.extend_from_slice(if is_split { b"t".as_slice() } else { classes })?;

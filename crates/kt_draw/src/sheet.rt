@@ -1,4 +1,8 @@
 //! The sheet that a picture is drawn on: its plane, its rows, and its size.
+//! Cited by band.rt, legend.rt, life.rt, picture.rt, row.rt, way.rt.
+
+ghost use Rattle.std.specs.Prelude.{◌≡◌};
+ghost use Rattle.kt_draw.specs.Rows.{above, point};
 
 use crate::element::Point;
 use crate::plane::{BAND, GAP, NUMBERS, Plane, ROW, TITLE};
@@ -42,12 +46,21 @@ impl Sheet {
         }
     }
 
-    /// The middle of the row of this step in the column of this node.
-    pub fn point(self, node: NodeId, place: u32) -> Point {
+    /// The middle of the row with so many above it in the column of this node.
+    pub fn point(self, node: NodeId, above: u32) -> Point
+        ensures { result ≡ point self node above }
+    {
         Point {
             x: self.plane.column(node),
-            y: self.plane.row_y(place),
+            y: self.plane.row_y(above),
         }
+    }
+
+    /// How many rows stand above that of the step of this number.
+    pub fn above(self, number: u64) -> u32
+        ensures { result ≡ above self number }
+    {
+        number.saturating_sub(self.first).min(u64::from(u32::MAX)) as u32
     }
 
     /// Where the texts of the rows begin.

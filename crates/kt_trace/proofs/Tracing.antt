@@ -10,7 +10,7 @@ use Rattle.kt_model.specs.Effect.{step_result}
 use Rattle.kt_model.specs.Reached.{next_state, or_as_it_was}
 use Rattle.kt_model.specs.State.{State}
 use Rattle.kt_trace.specs.declared.traced.Traced.{Traced}
-use Rattle.kt_trace.specs.Rows.{entry_of, line_of, onward, trace_from}
+use Rattle.kt_trace.specs.Rows.{behind, entry_of, gone_on, line_of, onward, trace_from}
 use Rattle.kt_trace.specs.auxiliary.Entries.{is_end}
 
 -- behind a step that was made
@@ -77,3 +77,45 @@ traced_all lines i s steps so_far whole past told =
     sym (append-nil so_far)
     ∙ ap (λ (xs : List Step). so_far ++ trace_from lines (i + 1) s xs) (sym (drop_all i steps past))
     ∙ told
+
+-- ---- the state behind the steps that are made
+
+-- a step that was made leads on
+led-on : (number line : ℕ) (s : State) (step : Step) (r : Result State StepError) (entry : Traced) (f : State → State)
+    → entry ≡ entry_of number line s step r → is_end entry ≡ false → gone_on r s f ≡ f (or_as_it_was r s)
+led-on number line s step (Ok new) entry f is more = refl
+led-on number line s step (Err cause) entry f is more = absurd (false≢true (sym more ∙ ap is_end is))
+
+-- one that was refused leaves all as it was
+led-to : (number line : ℕ) (s : State) (step : Step) (r : Result State StepError) (entry : Traced) (f : State → State)
+    → entry ≡ entry_of number line s step r → is_end entry ≡ true → or_as_it_was r s ≡ gone_on r s f
+led-to number line s step (Ok new) entry f is more = absurd (false≢true (sym (ap is_end is) ∙ more))
+led-to number line s step (Err cause) entry f is more = refl
+
+next-behind : (s : State) (steps : List Step) (i : ℕ) (step : Step) → i < length steps → step ≡ get_or steps i step
+    → behind s (drop i steps) ≡ gone_on (step_result s step) s (λ new. behind new (drop (suc i) steps))
+unfolding behind
+next-behind s steps i step lt at =
+    ap (behind s) (drop-cons steps i step lt ∙ ap (λ (x : Step). x ∷ drop (suc i) steps) (sym at))
+
+pub behind_more : (i line : ℕ) (s new : State) (steps : List Step) (step : Step) (entry : Traced) (whole : State)
+    → i < length steps → step ≡ get_or steps i step → entry ≡ entry_of (i + 1) line s step (step_result s step)
+    → is_end entry ≡ false → new ≡ next_state s step → behind s (drop i steps) ≡ whole
+    → behind new (drop (i + 1) steps) ≡ whole
+behind_more i line s new steps step entry whole lt at is more leads told =
+    let f : State → State = λ t. behind t (drop (suc i) steps) in
+    let places : i + 1 ≡ suc i = omega arith in
+    ap (λ (k : ℕ). behind new (drop k steps)) places ∙ ap f leads
+    ∙ sym (led-on (i + 1) line s step (step_result s step) entry f is more)
+    ∙ sym (next-behind s steps i step lt at) ∙ told
+
+pub behind_last : (i line : ℕ) (s new : State) (steps : List Step) (step : Step) (entry : Traced) (whole : State)
+    → i < length steps → step ≡ get_or steps i step → entry ≡ entry_of (i + 1) line s step (step_result s step)
+    → is_end entry ≡ true → new ≡ next_state s step → behind s (drop i steps) ≡ whole → new ≡ whole
+behind_last i line s new steps step entry whole lt at is more leads told =
+    leads ∙ led-to (i + 1) line s step (step_result s step) entry (λ t. behind t (drop (suc i) steps)) is more
+    ∙ sym (next-behind s steps i step lt at) ∙ told
+
+pub behind_all : (i : ℕ) (s : State) (steps : List Step) (whole : State) → length steps ≤ i → behind s (drop i steps) ≡ whole → s ≡ whole
+unfolding behind
+behind_all i s steps whole past told = ap (behind s) (sym (drop_all i steps past)) ∙ told
