@@ -1,4 +1,5 @@
 -- Rows stand one below the other, and columns side by side.
+-- Cited by `laws::columns_stand_side_by_side`, `laws::rows_stand_one_below_the_other`.
 use Rattle.std.proofs.Common.{◌≡◌, ◌≤◌, ◌<◌, ℕ, ◌+◌, ◌-◌, ◌*◌, ◌/◌, arith}
 use Rattle.std.specs.Prelude.{min, max}
 use Rattle.std.proofs.lemmas.Nat.{le-div}

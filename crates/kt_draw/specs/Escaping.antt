@@ -1,4 +1,5 @@
 -- Text as XML and HTML have it, between tags and in attributes.
+-- Cited by Plain, escape.rt, laws.rt, specs/Elements, `escape::push_escaped`.
 use Rattle.std.specs.Prelude.{ℕ, ◌==◌, Bool, not, ◌&&◌, if◌then◌else◌, List, [], ◌∷◌, codes}
 use Rattle.std.specs.List.{flat_map}
 

@@ -1,4 +1,5 @@
 -- Where the rows and the columns of a picture stand, in pixels.
+-- Cited by Apart, laws.rt, plane.rt, specs/Rows.
 use Rattle.std.specs.Prelude.{ℕ, ◌+◌, ◌-◌, ◌*◌, ◌/◌, min, max}
 use Rattle.kt_tuple.specs.declared.node.NodeId.{NodeId}
 use Rattle.kt_tuple.specs.declared.node.NodeId.TheVariants.{Worker, Shard}

@@ -1,4 +1,5 @@
 //! Laws about the definitions, each the contract of a function with nothing to do.
+//! Cited by no other file of crates/.
 
 ghost use Rattle.std.specs.Prelude.{◌≡◌, ◌≤◌, ◌<◌, ◌+◌, ℕ, IsTrue, List};
 ghost use Rattle.std.specs.List.{list_all};

@@ -1,4 +1,5 @@
 //! Messages as lines.
+//! Cited by legend.rt, picture.rt.
 
 use crate::element::Point;
 use crate::sheet::Sheet;

@@ -1,4 +1,5 @@
 -- A change of lines.
+-- Cited by splice.rt.
 use Rattle.std.specs.Prelude.{ℕ, ◌+◌, List, ◌++◌, map, take, drop}
 use Rattle.std.specs.Vec.{Vec}
 

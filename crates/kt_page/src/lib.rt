@@ -3,8 +3,8 @@
 //!
 //! - Contract: text stands in the page without signs of markup, and in the script's data without `<` (`push_escaped` of
 //!   kt_draw, `push_string`). The lines that a change leaves are the new ones (`splice`, clause `put`).
-//! - Stands on: kt_tuple, kt_history, kt_worker, kt_shard, kt_store, kt_state, kt_core, kt_trace, kt_tell, kt_story,
-//!   kt_draw
+//! - Stands on: kt_tuple, kt_script, kt_space, kt_shard, kt_worker, kt_vote, kt_history, kt_ckpt, kt_store, kt_state,
+//!   kt_core, kt_trace, kt_tell, kt_story, kt_draw
 //! - Begin in: `page.rt`, then `watch.rt` for what changes from step to step, `cells.rt` for what is shown of a world,
 //!   and `fate.rt` for what became of services. `look.rt` and `script.rt` are constant text.
 #![tactic(auto)]

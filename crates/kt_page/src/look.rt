@@ -31,7 +31,7 @@ pub(crate) const LOOK: &[&str] = &[
     "caption{text-align:left;font-weight:bold;padding:.8rem 0 .2rem;font-size:1rem}",
     "th,td{text-align:left;vertical-align:top;padding:.15rem .4rem;border:1px solid var(--rule)}",
     "thead th{background:var(--band)}",
-    "td{font-family:monospace;overflow-wrap:anywhere;min-width:5.5rem}",
+    "td{font-family:monospace;overflow-wrap:anywhere;min-width:4.4rem}",
     "td div+div{border-top:1px dotted var(--rule)}",
     ".new{box-shadow:inset .3rem 0 0 var(--mark);padding-left:.6rem}",
     "ol{padding-left:4rem;font:.9rem/1.5 monospace;overflow-wrap:anywhere}",

@@ -1,5 +1,5 @@
 //! What the cells of a node show.
-//! Cited by cells.rt.
+//! Cited by cells.rt, fate.rt.
 
 use crate::message::push_kept;
 use kt_core::World;

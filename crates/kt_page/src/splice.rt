@@ -1,5 +1,5 @@
 //! What changes of a list of lines.
-//! Cited by json.rt, page.rt, watch.rt.
+//! Cited by json.rt.
 
 ghost use Rattle.std.specs.Prelude.{◌≡◌, ◌≤◌, length, IfSome, None};
 ghost use Rattle.kt_page.specs.Splice.{put, text_of};

@@ -1,4 +1,5 @@
 -- What marks a step in a picture.
+-- Cited by mark.rt, story.rt; other crates.
 use Rattle.std.specs.Prelude.{Bool, true, false, if◌then◌else◌, Option, None, Some}
 use Rattle.kt_tuple.specs.declared.node.NodeId.{NodeId}
 use Rattle.kt_history.specs.declared.note.Note.{Note}

@@ -1,4 +1,5 @@
 //! Messages, from the step that sent each to the one by which it arrived.
+//! Cited by other crates.
 
 use crate::story::Story;
 use kt_core::Step;

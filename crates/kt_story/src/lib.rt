@@ -4,7 +4,8 @@
 //! - Contract: the rows are those of the trace, each step once and in order (`Story::of`, clause `told`). A service is
 //!   marked as one that survives just where the history behind the last step says so (`Story::mark`, clauses `mark` and
 //!   `survives`).
-//! - Stands on: kt_tuple, kt_link, kt_history, kt_losses, kt_store, kt_state, kt_core, kt_trace, kt_tell
+//! - Stands on: kt_tuple, kt_link, kt_history, kt_losses, kt_scenario, kt_store, kt_state, kt_model, kt_core, kt_trace,
+//!   kt_tell
 //! - Begin in: `story.rt`, then `mark.rt` for what marks a step, `arrow.rt` for messages, and `words.rt` for what is said.
 #![tactic(auto)]
 

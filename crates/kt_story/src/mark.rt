@@ -1,4 +1,5 @@
 //! What marks a step in a picture.
+//! Cited by story.rt; other crates.
 
 ghost use Rattle.std.specs.Prelude.{◌≡◌, IsTrue};
 ghost use Rattle.kt_story.specs.Marks.{act_mark, arrival_mark, came_mark, mark_of, note_mark, saving_mark, turn_mark};

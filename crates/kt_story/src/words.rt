@@ -1,5 +1,5 @@
 //! What is said of a row, of a service, and of why it is lost.
-//! Cited by story.rt; other crates.
+//! Cited by other crates.
 
 ghost use Rattle.std.specs.Prelude.{◌≡◌, ◌++◌, ◌≤◌, ◌+◌, length, OnOk};
 ghost use Rattle.kt_story.specs.Said.{count_text, got_text, reason_text, saved_text, service_text, shortened};

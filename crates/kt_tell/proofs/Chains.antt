@@ -8,7 +8,7 @@ use Rattle.json.specs.Tree.{json_tokens, members_tokens}
 use Rattle.kt_show.specs.ShownJson.{members_of, object_of}
 use Rattle.kt_tell.specs.Shape.{Member}
 use Rattle.kt_tell.specs.auxiliary.Members.{in_object, member_tokens}
-use Rattle.kt_tell.proofs.Lines.{then_more}
+use Rattle.kt_tell.proofs.Pieces.{then_more}
 
 -- the last piece, as the list of members has it
 pub last_piece : (old new p : List Token) → new ≡ old ++ p → new ≡ old ++ (p ++ [])

@@ -1,4 +1,4 @@
-pub mod Lines
+pub mod Pieces
 pub mod Chains
 pub mod Arrays
 pub mod Tellings

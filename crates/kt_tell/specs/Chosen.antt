@@ -1,5 +1,5 @@
 -- Which entries of a trace are told.
--- Cited by Lines, choice.rt, rows_json.rt, specs/Told, words.rt, `rows_json::json_of`, `words::words_of`.
+-- Cited by Pieces, choice.rt, rows_json.rt, specs/Told, words.rt, `rows_json::json_of`, `words::words_of`.
 use Rattle.std.specs.Prelude.{ℕ, nat_le, Bool, true, false, ◌&&◌, ◌||◌, if◌then◌else◌, List, [], filter}
 use Rattle.std.specs.Prelude.{Option, None, Some}
 use Rattle.kt_tuple.specs.declared.node.NodeId.{NodeId}

@@ -1,5 +1,5 @@
 //! Which entries of a trace are told.
-//! Cited by rows_json.rt, telling.rt, words.rt.
+//! Cited by rows_json.rt, telling.rt, words.rt; other crates.
 
 ghost use Rattle.std.specs.Prelude.{◌≡◌};
 ghost use Rattle.kt_tell.specs.Chosen.{has_part, is_chosen};

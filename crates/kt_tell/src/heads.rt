@@ -1,5 +1,5 @@
 //! The first half of a line: who does what to whom.
-//! Cited by tails.rt, words.rt.
+//! Cited by tails.rt, words.rt; other crates.
 
 ghost use Rattle.std.specs.Prelude.{◌≡◌, ◌++◌, OnOk};
 ghost use Rattle.kt_tell.specs.Words.{act_text, answer_behind, around, arrival_text, control_text, head_text};

@@ -1,5 +1,5 @@
 //! The second half of a line: what came of it.
-//! Cited by words.rt.
+//! Cited by words.rt; other crates.
 
 ghost use Rattle.std.specs.Prelude.{◌≡◌, ◌++◌, OnOk};
 ghost use Rattle.std.specs.List.{flat_map};

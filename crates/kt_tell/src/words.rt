@@ -1,5 +1,5 @@
 //! The lines of a trace in words.
-//! Cited by telling.rt.
+//! Cited by telling.rt; other crates.
 
 ghost use Rattle.std.specs.Prelude.{◌≡◌, ◌++◌, IfOk, OnOk};
 ghost use Rattle.kt_tell.specs.Chosen.{chosen_text, told};
@@ -15,7 +15,7 @@ use kt_tuple::writing::push_number;
 use std::alloc::{AllocError, Global};
 
 /// A line of words for each entry that is chosen, in order. `AllocError` where memory is wanting.
-#[tactic(auto, using(crate::proofs::Lines::chosen_all))]
+#[tactic(auto, using(crate::proofs::Pieces::chosen_all))]
 pub fn words_of(alloc: Global, entries: &[Traced], choice: Choice) -> Result<Vec<u8>, AllocError>
     ensures text { IfOk result (λ text. text.items ≡ trace_text (told choice entries.now)) }
 {

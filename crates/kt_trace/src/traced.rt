@@ -1,5 +1,5 @@
 //! What is told of a step: a row of plain data.
-//! Cited by choice.rt, glimpse.rt, heads.rt, rows_json.rt, tails.rt, telling.rt, tracing.rt, words.rt.
+//! Cited by glimpse.rt, tracing.rt; other crates.
 
 use kt_history::Note;
 use kt_model::StepError;

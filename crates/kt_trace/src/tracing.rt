@@ -1,5 +1,5 @@
 //! Steps made one after the other, each with its row.
-//! Cited by telling.rt.
+//! Cited by other crates.
 
 ghost use Rattle.std.specs.Prelude.{◌≡◌, IfErr, IfOk, IsTrue, Ok, false};
 ghost use Rattle.kt_model.specs.Effect.{step_result};

@@ -1,7 +1,7 @@
 use Rattle.std.proofs.Common.{◌∷◌, ◌++◌, []}
 use Rattle.std.specs.Prelude.{codes}
 use Rattle.json.specs.Token.{begin_object, key, string}
-use Rattle.kt_tell.proofs.Lines.{then_more}
+use Rattle.kt_tell.proofs.Pieces.{then_more}
 use Rattle.kt_tell.proofs.events_json.begin_worded.Goals as goal
 
 pub returns : goal.returns

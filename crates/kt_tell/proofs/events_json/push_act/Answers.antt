@@ -5,7 +5,7 @@ use Rattle.json.specs.Tree.{json_tokens}
 use Rattle.kt_tuple.specs.declared.node.NodeId.TheVariants as ids
 use Rattle.kt_show.specs.ShownJson.{answer_json, count, json_or_null, name_json, op_json}
 use Rattle.kt_tell.specs.Shape.{answer_in, what_word}
-use Rattle.kt_tell.proofs.Lines.{then_more}
+use Rattle.kt_tell.proofs.Pieces.{then_more}
 use Rattle.kt_tell.proofs.events_json.push_act.Goals as goal
 
 pub returns : goal.returns

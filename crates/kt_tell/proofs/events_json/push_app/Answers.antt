@@ -6,7 +6,7 @@ use Rattle.kt_show.specs.ShownJson.{count}
 use Rattle.kt_tell.specs.Shape.{label_json, talk_members}
 use Rattle.kt_tell.specs.auxiliary.Members.{in_object}
 use Rattle.kt_tell.proofs.Chains.{object_of_both}
-use Rattle.kt_tell.proofs.Lines.{then_more}
+use Rattle.kt_tell.proofs.Pieces.{then_more}
 use Rattle.kt_tell.proofs.events_json.push_app.Goals as goal
 
 pub returns : goal.returns

@@ -4,7 +4,7 @@ use Rattle.json.specs.Token.{begin_object, end_object, key, string}
 use Rattle.json.specs.Tree.{json_tokens}
 use Rattle.kt_show.specs.ShownJson.{count}
 use Rattle.kt_tell.specs.Shape.{label_json}
-use Rattle.kt_tell.proofs.Lines.{then_more}
+use Rattle.kt_tell.proofs.Pieces.{then_more}
 use Rattle.kt_tell.proofs.events_json.push_ask.Goals as goal
 
 pub returns : goal.returns

@@ -4,7 +4,7 @@ use Rattle.json.specs.Token.{begin_object, key, string}
 use Rattle.json.specs.Tree.{json_tokens}
 use Rattle.kt_show.specs.ShownJson.{answer_json, count, op_json}
 use Rattle.kt_tell.proofs.Chains.{last_piece}
-use Rattle.kt_tell.proofs.Lines.{then_more}
+use Rattle.kt_tell.proofs.Pieces.{then_more}
 use Rattle.kt_tell.proofs.events_json.push_talk.Goals as goal
 
 pub returns-in-Request : goal.returns-in-Request

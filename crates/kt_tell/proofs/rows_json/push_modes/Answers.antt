@@ -5,7 +5,7 @@ use Rattle.json.specs.Tree.{json_tokens}
 use Rattle.kt_show.specs.ShownJson.{name_json}
 use Rattle.kt_tell.specs.Shape.{mode_json}
 use Rattle.kt_tell.proofs.Chains.{last_piece}
-use Rattle.kt_tell.proofs.Lines.{then_more}
+use Rattle.kt_tell.proofs.Pieces.{then_more}
 use Rattle.kt_tell.proofs.rows_json.push_modes.Goals as goal
 
 pub returns : goal.returns

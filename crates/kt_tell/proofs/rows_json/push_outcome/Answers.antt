@@ -5,7 +5,7 @@ use Rattle.json.specs.Tree.{json_tokens}
 use Rattle.kt_show.specs.ShownJson.{count, json_or_null}
 use Rattle.kt_tell.specs.Shape.{ruling_json, saving_json}
 use Rattle.kt_tell.proofs.Chains.{last_piece}
-use Rattle.kt_tell.proofs.Lines.{then_more}
+use Rattle.kt_tell.proofs.Pieces.{then_more}
 use Rattle.kt_tell.proofs.rows_json.push_outcome.Goals as goal
 
 pub returns : goal.returns

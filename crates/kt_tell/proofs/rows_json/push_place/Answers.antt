@@ -4,7 +4,7 @@ use Rattle.json.specs.Token.{key}
 use Rattle.json.specs.Tree.{json_tokens}
 use Rattle.kt_show.specs.ShownJson.{count}
 use Rattle.kt_tell.proofs.Chains.{last_piece}
-use Rattle.kt_tell.proofs.Lines.{then_more}
+use Rattle.kt_tell.proofs.Pieces.{then_more}
 use Rattle.kt_tell.proofs.rows_json.push_place.Goals as goal
 
 pub returns : goal.returns

@@ -6,7 +6,7 @@ use Rattle.kt_show.specs.ShownJson.{count}
 use Rattle.kt_tell.specs.Shape.{step_json}
 use Rattle.kt_tell.specs.Words.{refusal_name}
 use Rattle.kt_tell.proofs.Chains.{then_into}
-use Rattle.kt_tell.proofs.Lines.{then_more}
+use Rattle.kt_tell.proofs.Pieces.{then_more}
 use Rattle.kt_tell.proofs.rows_json.push_refused.Goals as goal
 
 pub returns : goal.returns

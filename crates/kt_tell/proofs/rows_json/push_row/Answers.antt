@@ -6,7 +6,7 @@ use Rattle.json.specs.Json.{boolean}
 use Rattle.kt_show.specs.ShownJson.{array_of, count, json_or_null, name_json}
 use Rattle.kt_tell.specs.Shape.{event_json, mode_json, ruling_json, saving_json, step_json, with_node}
 use Rattle.kt_tell.proofs.Chains.{then_into}
-use Rattle.kt_tell.proofs.Lines.{then_more}
+use Rattle.kt_tell.proofs.Pieces.{then_more}
 use Rattle.kt_tell.proofs.rows_json.push_row.Goals as goal
 
 pub returns : goal.returns

@@ -6,7 +6,7 @@ use Rattle.json.specs.Json.{boolean}
 use Rattle.kt_show.specs.ShownJson.{array_of, json_or_null}
 use Rattle.kt_tell.specs.Shape.{with_node}
 use Rattle.kt_tell.proofs.Chains.{last_piece}
-use Rattle.kt_tell.proofs.Lines.{then_more}
+use Rattle.kt_tell.proofs.Pieces.{then_more}
 use Rattle.kt_tell.proofs.rows_json.push_talk.Goals as goal
 
 pub returns : goal.returns

@@ -4,7 +4,7 @@ use Rattle.json.specs.Token.{begin_object, end_object, key}
 use Rattle.json.specs.Tree.{json_tokens}
 use Rattle.kt_show.specs.ShownJson.{name_json}
 use Rattle.kt_tell.specs.Shape.{message_json}
-use Rattle.kt_tell.proofs.Lines.{then_more}
+use Rattle.kt_tell.proofs.Pieces.{then_more}
 use Rattle.kt_tell.proofs.rows_json.push_with.Goals as goal
 
 pub returns : goal.returns
