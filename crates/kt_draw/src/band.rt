@@ -30,7 +30,9 @@ pub(crate) fn push_bands(out: &mut Vec<u8>, sheet: Sheet) -> Result<(), AllocErr
         push_band(
             out,
             sheet,
-            TITLE + (BAND + ROW * BLOCK).saturating_mul(band),
+            (BAND + ROW * BLOCK)
+                .saturating_mul(band)
+                .saturating_add(TITLE),
         )?;
     }
     Ok(())

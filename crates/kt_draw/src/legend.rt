@@ -115,7 +115,9 @@ impl Flow {
 
     /// Where an entry of this symbol and so many characters stands, and the flow behind it.
     pub(crate) fn put(self, symbol: Symbol, characters: u64) -> (Point, Flow) {
-        let wide = symbol.width() + text_width(characters).saturating_add(22);
+        let wide = text_width(characters)
+            .saturating_add(symbol.width())
+            .saturating_add(22);
         let Point { x, y } = self.next;
         let at = if x.saturating_add(wide) > self.width && x > MARGIN {
             Point {

@@ -100,11 +100,7 @@ fn sheet_of(
         longest = (refused_text(alloc, refused)?.len() as u64).max(longest);
     }
     Ok(Sheet {
-        plane: Plane {
-            workers: story.workers(),
-            shards: story.shards(),
-            rows: rows.len() as u32,
-        },
+        plane: Plane::new(story.workers(), story.shards(), rows.len()),
         first,
         has_end: story.refused().is_some() || rows.is_empty(),
         longest,

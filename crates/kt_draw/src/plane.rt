@@ -2,7 +2,7 @@
 //! the nodes among the rows.
 //! Cited by band.rt, life.rt, picture.rt, row.rt, sheet.rt, way.rt; other crates.
 
-ghost use Rattle.std.specs.Prelude.{◌≡◌, ◌≤◌};
+ghost use Rattle.std.specs.Prelude.{◌≡◌, ◌≤◌, min};
 ghost use Rattle.kt_draw.specs.declared.plane.TheConstants.{NARROWEST, WIDEST};
 
 use kt_tuple::NodeId;
@@ -41,6 +41,17 @@ pub struct Plane {
 
 impl Plane {
     ghost use Rattle.kt_draw.specs.Places.{bands, column, pitch, row_y};
+
+    /// The plane of so many nodes and rows.
+    pub fn new(workers: u8, shards: u8, rows: usize) -> Plane
+        ensures { result ≡ record { workers = workers; shards = shards; rows = min rows 4294967295 } }
+    {
+        Plane {
+            workers,
+            shards,
+            rows: rows.min(u32::MAX as usize) as u32,
+        }
+    }
 
     /// How many bands there are.
     pub fn bands(self) -> u64

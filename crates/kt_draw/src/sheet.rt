@@ -66,24 +66,30 @@ impl Sheet {
     /// Where the texts of the rows begin.
     pub fn text_x(self) -> u64 {
         let nodes = u64::from(self.plane.workers) + u64::from(self.plane.shards);
-        NUMBERS + nodes * self.plane.pitch() + GAP + ICON
+        nodes
+            .saturating_mul(self.plane.pitch())
+            .saturating_add(NUMBERS + GAP + ICON)
     }
 
     /// The width of the sheet: a multiple of 16.
     pub fn width(self) -> u64 {
-        let wanted = self.text_x() + text_width(self.longest).saturating_add(MARGIN);
+        let wanted = self
+            .text_x()
+            .saturating_add(text_width(self.longest))
+            .saturating_add(MARGIN);
         wanted.max(NARROW).saturating_add(15) / 16 * 16
     }
 
     /// The lower edge of the last row.
     pub fn rows_bottom(self) -> u64 {
-        TITLE + BAND * self.plane.bands() + ROW * u64::from(self.plane.rows)
+        let bands = BAND.saturating_mul(self.plane.bands());
+        (TITLE + ROW * u64::from(self.plane.rows)).saturating_add(bands)
     }
 
     /// Where the nodes' lines and the veil over later rows end.
     pub fn bottom(self) -> u64 {
         let more = if self.has_end { ROW } else { 0 };
-        self.rows_bottom() + 10 + more
+        self.rows_bottom().saturating_add(10 + more)
     }
 
     /// Whether the scene has this node, and so a column for it.

@@ -60,11 +60,7 @@ pub(crate) fn push_list(
     let (_, rows) = story
         .rows()
         .split_at((before as usize).min(story.rows().len()));
-    let plane = Plane {
-        workers: story.workers(),
-        shards: story.shards(),
-        rows: rows.len() as u32,
-    };
+    let plane = Plane::new(story.workers(), story.shards(), rows.len());
     out.extend_from_slice(b"<ol>\n")?;
     push_item(out, before, TITLE + BAND - ROW)?;
     if before == 0 {
@@ -74,14 +70,13 @@ pub(crate) fn push_list(
         push_number(out, before)?;
     }
     out.extend_from_slice(b"</a></li>\n")?;
-    for (place, row) in rows.iter().enumerate() {
-        push_item(
-            out,
-            row.number,
-            plane.row_y(place as u32).saturating_sub(ROW / 2),
-        )?;
+    let mut above = 0u32;
+    for row in rows {
+        let top = plane.row_y(above).saturating_sub(ROW / 2);
+        push_item(out, row.number, top)?;
         push_line(alloc, out, row)?;
         out.extend_from_slice(b"</a></li>\n")?;
+        above = above.saturating_add(1);
     }
     if let Some(refused) = story.refused() {
         out.extend_from_slice(b"<li value=\"")?;

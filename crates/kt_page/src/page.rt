@@ -129,7 +129,7 @@ fn push_script(
         if place > 0 {
             out.extend_from_slice(b",\n")?;
         }
-        let new = fates.cells(alloc, (first - 1).saturating_add(place as u64))?;
+        let new = fates.cells(alloc, first.saturating_sub(1).saturating_add(place as u64))?;
         let mut line = Vec::from_slice(alloc, change)?;
         push_changes(&mut line, number, &old, &new)?;
         out.push(b'[')?;

@@ -49,7 +49,7 @@ pub(crate) fn watch(
                 break;
             }
         }
-        if first <= number + 1 {
+        if first <= number.saturating_add(1) {
             cells = shown(alloc, &world, &cells, &mut changes)?;
         }
     }
