@@ -62,6 +62,10 @@ pub data AreDrawn (begin : TracedStep → List ℕ) : List TracedStep → List �
   more : (rows : List TracedStep) (row : TracedStep) (text words : List ℕ) → AreDrawn begin rows text
       → AreDrawn begin (rows ++ row ∷ []) (text ++ (begin row ++ words))
 
+-- this begin of a row is put behind the text, and words behind that
+abbrev pub IsRowBehind : List ℕ → List ℕ → List ℕ → Type 0
+IsRowBehind begin old new = (words : List ℕ) × (new ≡ old ++ (begin ++ words))
+
 -- the rows are put behind the text
 abbrev pub IsDrawnBehind : (TracedStep → List ℕ) → List TracedStep → List ℕ → List ℕ → Type 0
 IsDrawnBehind begin rows old new = (drawn : List ℕ) × AreDrawn begin rows drawn × (new ≡ old ++ drawn)

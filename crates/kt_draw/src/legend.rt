@@ -1,9 +1,6 @@
 //! What the marks and the lines of a picture mean.
 //! Cited by picture.rt.
 
-ghost use Rattle.std.specs.Prelude.{OnOk};
-ghost use Rattle.std.specs.Io.{StartsWith};
-
 use crate::element::{Point, push_box, push_label, push_line, push_use};
 use crate::life::push_piece;
 use crate::row::symbol_of;
@@ -147,9 +144,7 @@ pub(crate) fn push_entry(
     at: Point,
     symbol: Symbol,
     text: &[u8],
-) -> Result<(), AllocError>
-    ensures { OnOk result (StartsWith out.new.items out.old.items) }
-{
+) -> Result<(), AllocError> {
     push_symbol(out, at, symbol)?;
     let beside = Point {
         x: at.x.saturating_add(symbol.width()).saturating_add(4),
@@ -158,9 +153,7 @@ pub(crate) fn push_entry(
     push_label(out, b"t", beside, text)
 }
 
-fn push_symbol(out: &mut Vec<u8>, at: Point, symbol: Symbol) -> Result<(), AllocError>
-    ensures { OnOk result (StartsWith out.new.items out.old.items) }
-{
+fn push_symbol(out: &mut Vec<u8>, at: Point, symbol: Symbol) -> Result<(), AllocError> {
     match symbol {
         Symbol::Mark(mark) => push_use(out, symbol_of(mark), right(at, 8)),
         Symbol::Crossed => {

@@ -1,9 +1,6 @@
 //! The lines of the nodes, with the modes that they are in, and what of them was crossed out.
 //! Cited by legend.rt, picture.rt.
 
-ghost use Rattle.std.specs.Prelude.{OnOk};
-ghost use Rattle.std.specs.Io.{StartsWith};
-
 use crate::element::{Point, push_box};
 use crate::plane::{BAND, ROW, TITLE};
 use crate::sheet::Sheet;
@@ -64,9 +61,7 @@ pub(crate) fn push_piece(
     mode: Mode,
     top: Point,
     end: u64,
-) -> Result<(), AllocError>
-    ensures { OnOk result (StartsWith out.new.items out.old.items) }
-{
+) -> Result<(), AllocError> {
     out.extend_from_slice(b"<path class=\"")?;
     out.extend_from_slice(mode_class(mode))?;
     out.extend_from_slice(b"\" d=\"")?;
@@ -80,9 +75,7 @@ pub(crate) fn push_piece(
 }
 
 /// A stroke downward.
-fn push_stroke(out: &mut Vec<u8>, x: u64, top: u64, end: u64) -> Result<(), AllocError>
-    ensures { OnOk result (StartsWith out.new.items out.old.items) }
-{
+fn push_stroke(out: &mut Vec<u8>, x: u64, top: u64, end: u64) -> Result<(), AllocError> {
     out.push(b'M')?;
     push_number(out, x)?;
     out.push(b' ')?;

@@ -2,7 +2,6 @@
 //! Cited by other crates.
 
 ghost use Rattle.std.specs.Prelude.{◌≡◌, IfOk, OnOk, length};
-ghost use Rattle.std.specs.Io.{StartsWith};
 ghost use Rattle.kt_draw.specs.Rows.{HasRows, rows_from};
 
 use crate::band::{push_bands, push_rules};
@@ -181,7 +180,8 @@ fn push_all(
     let height = last.saturating_add(LINE);
     push_front(alloc, out, story, rows, drawing, height, form)?;
     push_rows(alloc, out, drawing.sheet, story, rows)?;
-    push_behind(alloc, out, story, drawing, &legend, form)
+    let behind = behind_rows(alloc, story, drawing, &legend, form)?;
+    out.extend_from_slice(&behind)
 }
 
 /// What stands before the rows: names, style, title, and the lines of nodes and messages.
@@ -217,36 +217,24 @@ fn push_front(
 }
 
 /// What stands behind the rows: how they end, what a script moves, and the legend.
-fn push_behind(
+fn behind_rows(
     alloc: Global,
-    out: &mut Vec<u8>,
     story: &Story,
     drawing: &Drawing,
     legend: &[(Point, Symbol, &'static str)],
     form: Form,
-) -> Result<(), AllocError>
-    ensures { OnOk result (StartsWith out.new.items out.old.items) }
-{
-    push_end(alloc, out, drawing.sheet, story)?;
+) -> Result<Vec<u8>, AllocError> {
+    let mut out = Vec::new(alloc);
+    push_end(alloc, &mut out, drawing.sheet, story)?;
     match form {
         Form::Alone => {}
-        Form::InPage => push_moved(out, drawing.sheet)?,
+        Form::InPage => push_moved(&mut out, drawing.sheet)?,
     }
-    push_legend(out, legend)?;
-    out.extend_from_slice(b"</svg>\n")
-}
-
-/// The entries of the legend.
-fn push_legend(
-    out: &mut Vec<u8>,
-    legend: &[(Point, Symbol, &'static str)],
-) -> Result<(), AllocError>
-    ensures { OnOk result (StartsWith out.new.items out.old.items) }
-{
     for (at, symbol, text) in legend {
-        push_entry(out, *at, *symbol, text.as_bytes())?;
+        push_entry(&mut out, *at, *symbol, text.as_bytes())?;
     }
-    Ok(())
+    out.extend_from_slice(b"</svg>\n")?;
+    Ok(out)
 }
 
 /// The begin of the root element.
@@ -299,9 +287,7 @@ fn push_ground(out: &mut Vec<u8>, sheet: Sheet, height: u64) -> Result<(), Alloc
 }
 
 /// The boxes that a script moves, without a height until then.
-fn push_moved(out: &mut Vec<u8>, sheet: Sheet) -> Result<(), AllocError>
-    ensures { OnOk result (StartsWith out.new.items out.old.items) }
-{
+fn push_moved(out: &mut Vec<u8>, sheet: Sheet) -> Result<(), AllocError> {
     let width = sheet.width();
     out.extend_from_slice(b"<rect id=\"later\" class=\"p\" fill-opacity=\".6\" width=\"")?;
     push_number(out, width)?;
@@ -317,9 +303,12 @@ fn push_moved(out: &mut Vec<u8>, sheet: Sheet) -> Result<(), AllocError>
 }
 
 /// Below the rows: that there is none, or the step that was refused, which ended the story.
-fn push_end(alloc: Global, out: &mut Vec<u8>, sheet: Sheet, story: &Story) -> Result<(), AllocError>
-    ensures { OnOk result (StartsWith out.new.items out.old.items) }
-{
+fn push_end(
+    alloc: Global,
+    out: &mut Vec<u8>,
+    sheet: Sheet,
+    story: &Story,
+) -> Result<(), AllocError> {
     let y = sheet.rows_bottom().saturating_add(ROW - 4);
     if let Some(refused) = story.refused() {
         let x = sheet.text_x();

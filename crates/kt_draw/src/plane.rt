@@ -2,7 +2,7 @@
 //! the nodes among the rows.
 //! Cited by band.rt, life.rt, picture.rt, row.rt, sheet.rt, way.rt; other crates.
 
-ghost use Rattle.std.specs.Prelude.{◌≡◌, ◌≤◌, min};
+ghost use Rattle.std.specs.Prelude.{◌≡◌, ◌≤◌, ◌^◌, min};
 ghost use Rattle.kt_draw.specs.declared.plane.TheConstants.{NARROWEST, WIDEST};
 
 use kt_tuple::NodeId;
@@ -62,7 +62,8 @@ impl Plane {
 
     /// The middle of the row with so many rows above it.
     pub fn row_y(self, above: u32) -> u64
-        ensures { result ≡ row_y self.rows above }
+        ensures value { result ≡ row_y self.rows above }
+        ensures low { result ≤ 2 ^ 40 }
     {
         let rows = u64::from(above);
         let bands = (rows / BLOCK + 1).min(self.bands());

@@ -2,8 +2,7 @@
 //! Cited by legend.rt, picture.rt.
 
 ghost use Rattle.std.specs.Prelude.{◌≡◌, ◌++◌, OnOk};
-ghost use Rattle.std.specs.Io.{StartsWith};
-ghost use Rattle.kt_draw.specs.Rows.{IsDrawnBehind, number_text, row_begin, symbol_of};
+ghost use Rattle.kt_draw.specs.Rows.{IsDrawnBehind, IsRowBehind, number_text, row_begin, symbol_of};
 
 use crate::element::{Point, push_label, push_use};
 use crate::escape::push_escaped;
@@ -55,13 +54,28 @@ pub(crate) fn push_rows(
     story: &Story,
     rows: &[TracedStep],
 ) -> Result<(), AllocError>
-    ensures { OnOk result (IsDrawnBehind (row_begin sheet story.now.state.history) rows.now out.old.items out.new.items) }
+    ensures { OnOk result
+        (IsDrawnBehind (row_begin sheet story.now.state.history) rows.now out.old.items out.new.items) }
 {
     for row in rows {
-        push_row_begin(out, sheet, story, row)?;
-        push_row_text(alloc, out, sheet, story, row)?;
+        push_row(alloc, out, sheet, story, row)?;
     }
     Ok(())
+}
+
+/// The begin of the row, and then its text.
+fn push_row(
+    alloc: Global,
+    out: &mut Vec<u8>,
+    sheet: Sheet,
+    story: &Story,
+    row: &TracedStep,
+) -> Result<(), AllocError>
+    ensures { OnOk result (IsRowBehind (row_begin sheet story.now.state.history row.now) out.old.items out.new.items) }
+{
+    push_row_begin(out, sheet, story, row)?;
+    let text = row_text(alloc, sheet, story, row)?;
+    out.extend_from_slice(&text)
 }
 
 /// The number of the row's step, and its mark in the column of its node.
@@ -74,32 +88,35 @@ fn push_row_begin(
     ensures { OnOk result (out.new.items ≡ out.old.items ++ row_begin sheet story.now.state.history row.now) }
 {
     let point = sheet.point(row.node, sheet.above(row.number));
-    push_step_number(out, row.number, point.y.saturating_add(4))?;
+    push_step_number(out, row.number, point.y + 4)?;
     push_use(out, symbol_of(story.mark(row)), point)
 }
 
 /// The mark once more where it tells, and what is said of the row.
-fn push_row_text(
+fn row_text(
     alloc: Global,
-    out: &mut Vec<u8>,
     sheet: Sheet,
     story: &Story,
     row: &TracedStep,
-) -> Result<(), AllocError>
-    ensures { OnOk result (StartsWith out.new.items out.old.items) }
-{
-    let y = sheet.plane.row_y(sheet.above(row.number)).saturating_add(4);
+) -> Result<Vec<u8>, AllocError> {
+    let mut out = Vec::new(alloc);
+    let Point { y, .. } = sheet.point(row.node, sheet.above(row.number));
     let x = sheet.text_x();
     let mark = story.mark(row);
     if is_telling(mark) {
         let beside = Point {
             x: x.saturating_sub(14),
-            y: y.saturating_sub(4),
+            y,
         };
-        push_use(out, symbol_of(mark), beside)?;
+        push_use(&mut out, symbol_of(mark), beside)?;
     }
     let words = words_of(alloc, story, row)?;
-    push_words(out, Point { x, y }, &words, row_class(story, row, mark))
+    let at = Point {
+        x,
+        y: y.saturating_add(4),
+    };
+    push_words(&mut out, at, &words, row_class(story, row, mark))?;
+    Ok(out)
 }
 
 /// The number of a step, before the columns.
@@ -125,9 +142,12 @@ fn row_class(story: &Story, row: &TracedStep, mark: Mark) -> &'static [u8] {
 }
 
 /// The text of a row. Of a service that is lost the reason is not struck through.
-fn push_words(out: &mut Vec<u8>, at: Point, words: &Words, classes: &[u8]) -> Result<(), AllocError>
-    ensures { OnOk result (StartsWith out.new.items out.old.items) }
-{
+fn push_words(
+    out: &mut Vec<u8>,
+    at: Point,
+    words: &Words,
+    classes: &[u8],
+) -> Result<(), AllocError> {
     let is_split = !words.reason.is_empty();
     out.extend_from_slice(b"<text class=\"")?;
     out.extend_from_slice(if is_split { b"t".as_slice() } else { classes })?;

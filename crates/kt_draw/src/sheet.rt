@@ -1,7 +1,7 @@
 //! The sheet that a picture is drawn on: its plane, its rows, and its size.
 //! Cited by band.rt, legend.rt, life.rt, picture.rt, row.rt, way.rt.
 
-ghost use Rattle.std.specs.Prelude.{◌≡◌};
+ghost use Rattle.std.specs.Prelude.{◌≡◌, ◌≤◌, ◌^◌};
 ghost use Rattle.kt_draw.specs.Rows.{above, point};
 
 use crate::element::Point;
@@ -48,7 +48,8 @@ impl Sheet {
 
     /// The middle of the row with so many above it in the column of this node.
     pub fn point(self, node: NodeId, above: u32) -> Point
-        ensures { result ≡ point self node above }
+        ensures value { result ≡ point self node above }
+        ensures low { result.y ≤ 2 ^ 40 }
     {
         Point {
             x: self.plane.column(node),
