@@ -1,4 +1,4 @@
-pub mod Tracing
+pub mod Going
 pub mod Sending
-pub mod Refused
+pub mod Refusals
 pub mod Stepped

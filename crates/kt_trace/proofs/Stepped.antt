@@ -14,7 +14,7 @@ use Rattle.kt_trace.specs.declared.traced.TracedStep.{TracedStep}
 use Rattle.kt_trace.specs.Rows.{entry_of}
 use Rattle.kt_trace.specs.auxiliary.Entries.{is_want}
 use Rattle.kt_trace.specs.auxiliary.Glimpses.{glimpse_of, row_from}
-use Rattle.kt_trace.proofs.Refused.{refused_result}
+use Rattle.kt_trace.proofs.Refusals.{refused_result}
 use Rattle.kt_trace.proofs.Sending.{row_is}
 
 -- the step was made: its row is what was seen before it, and the state behind it
