@@ -1,3 +1,4 @@
 pub mod Lines
 pub mod Json
 pub mod Splice
+pub mod Cells

@@ -1,6 +1,21 @@
 //! What the cells of a node show.
 //! Cited by cells.rt, fate.rt.
 
+ghost use Rattle.std.specs.Prelude.{◌≡◌, ◌++◌, ◌∷◌, [], IfOk, OnOk, filter, option_and_then};
+ghost use Rattle.std.specs.Option.{option_copied, option_map};
+ghost use Rattle.kt_store.specs.Content.{instance_row};
+ghost use Rattle.kt_scenario.specs.Scene.{script_in};
+ghost use Rattle.kt_vote.specs.Poll.{is_awaited};
+ghost use Rattle.kt_model.specs.ReadSet.{poll_at};
+ghost use Rattle.kt_model.specs.State.{node};
+ghost use Rattle.kt_state.specs.Node.{shard_of, worker_of};
+ghost use Rattle.kt_tuple.specs.Node.{all_nodes};
+ghost use Rattle.kt_trace.specs.Rows.{mode_at};
+ghost use Rattle.kt_page.specs.Cells.{awaited_lines, begun_text, kept_lines, mode_word, names_text, node_cells};
+ghost use Rattle.kt_page.specs.Cells.{numbered_text, part_lines, request_line, request_lines, saved_lines, tuple_lines};
+ghost use Rattle.kt_page.specs.Cells.{waiting_lines, waiting_of};
+ghost use Rattle.kt_page.specs.Splice.{cells_text, text_of};
+
 use crate::message::push_kept;
 use kt_core::World;
 use kt_shard::Shard;
@@ -8,7 +23,8 @@ use kt_state::Mode;
 use kt_store::{MemStore, NodeRow, Purpose, Verdict};
 use kt_story::push_count;
 use kt_tuple::writing::push_number;
-use kt_tuple::{ALL_NODES, MAX_WORKERS, NodeId};
+use kt_tuple::{ALL_NODES, NodeId, Op};
+use kt_vote::Ballot;
 use kt_worker::Worker;
 use std::alloc::{AllocError, Global};
 
@@ -19,16 +35,16 @@ pub(crate) fn push_node_cells(
     cells: &mut Vec<Vec<Vec<u8>>>,
     world: &World<MemStore>,
     node: NodeId,
-) -> Result<(), AllocError> {
+) -> Result<(), AllocError>
+    ensures { OnOk result
+        (cells_text cells.new.items ≡ cells_text cells.old.items ++ node_cells world.now.state node) }
+{
     cells.push(mode_lines(alloc, world, node)?)?;
     cells.push(part_lines(alloc, world, node)?)?;
     match node {
         NodeId::Worker(_) => cells.push(request_lines(alloc, world, node)?)?,
         NodeId::Shard(_) => {
-            let shard = match world.node(node) {
-                Some(found) => found.shard(),
-                None => None,
-            };
+            let shard = shard_at(world, node);
             cells.push(tuple_lines(alloc, shard)?)?;
             cells.push(waiting_lines(alloc, shard)?)?;
         }
@@ -38,26 +54,52 @@ pub(crate) fn push_node_cells(
     Ok(())
 }
 
-/// These characters.
-pub(crate) fn text_of(alloc: Global, text: &[u8]) -> Result<Vec<u8>, AllocError> {
-    let mut out = Vec::new(alloc);
-    out.extend_from_slice(text)?;
-    Ok(out)
+/// Puts a line of these characters behind the others.
+pub(crate) fn add_line(
+    alloc: Global,
+    lines: &mut Vec<Vec<u8>>,
+    text: &[u8],
+) -> Result<(), AllocError>
+    ensures { OnOk result (text_of lines.new.items ≡ text_of lines.old.items ++ text.now ∷ []) }
+{
+    lines.push(Vec::from_slice(alloc, text)?)?;
+    Ok(())
+}
+
+/// The shard that the node is, in whatever mode it is but down.
+fn shard_at(world: &World<MemStore>, node: NodeId) -> Option<&Shard>
+    ensures { option_map (λ y. y.now.state) result ≡ option_and_then (node world.now.state node) shard_of }
+{
+    match world.node(node) {
+        Some(found) => found.shard(),
+        None => None,
+    }
+}
+
+/// The worker that the node is, in whatever mode it is but down.
+fn worker_at(world: &World<MemStore>, node: NodeId) -> Option<&Worker>
+    ensures { option_copied result ≡ option_and_then (node world.now.state node) worker_of }
+{
+    match world.node(node) {
+        Some(found) => found.worker(),
+        None => None,
+    }
 }
 
 fn mode_lines(
     alloc: Global,
     world: &World<MemStore>,
     node: NodeId,
-) -> Result<Vec<Vec<u8>>, AllocError> {
-    let word = match world.mode(node) {
-        Some(Mode::Up) => b"up".as_slice(),
-        Some(Mode::Held) => b"held".as_slice(),
-        Some(Mode::Rolling) => b"rolling back".as_slice(),
-        Some(Mode::Down) | None => b"down".as_slice(),
-    };
+) -> Result<Vec<Vec<u8>>, AllocError>
+    ensures { IfOk result (λ lines. text_of lines.items ≡ mode_word (mode_at world.now.state node) ∷ []) }
+{
     let mut lines = Vec::new(alloc);
-    lines.push(text_of(alloc, word)?)?;
+    match world.mode(node) {
+        Some(Mode::Up) => add_line(alloc, &mut lines, b"up")?,
+        Some(Mode::Held) => add_line(alloc, &mut lines, b"held")?,
+        Some(Mode::Rolling) => add_line(alloc, &mut lines, b"rolling back")?,
+        Some(Mode::Down) | None => add_line(alloc, &mut lines, b"down")?,
+    }
     Ok(lines)
 }
 
@@ -66,47 +108,36 @@ fn part_lines(
     alloc: Global,
     world: &World<MemStore>,
     node: NodeId,
-) -> Result<Vec<Vec<u8>>, AllocError> {
+) -> Result<Vec<Vec<u8>>, AllocError>
+    ensures { IfOk result (λ lines.
+        text_of lines.items ≡ part_lines world.now.state.content (poll_at world.now.state node)) }
+{
     let mut lines = Vec::new(alloc);
     let Some(ballot) = world.ballot(node) else {
         return Ok(lines);
     };
     let mut line = Vec::new(alloc);
-    push_instance(&mut line, world, ballot.instance())?;
+    push_begun(&mut line, world, ballot.instance())?;
     if let Some(asker) = ballot.parent() {
         line.extend_from_slice(b", asked by ")?;
         asker.node.write_to(&mut line)?;
     }
     lines.push(line)?;
-    if !ballot.complete() {
-        let mut line = text_of(alloc, b"waits for the votes of ")?;
-        let mut is_first = true;
-        for other in &ALL_NODES {
-            if ballot.awaits(*other) {
-                if !is_first {
-                    line.extend_from_slice(b", ")?;
-                }
-                other.write_to(&mut line)?;
-                is_first = false;
-            }
-        }
-        lines.push(line)?;
-    }
+    add_awaited(alloc, &mut lines, ballot)?;
     if ballot.refused() {
-        lines.push(text_of(alloc, b"a vote was no")?)?;
+        add_line(alloc, &mut lines, b"a vote was no")?;
     }
     if ballot.has_voted() {
-        lines.push(text_of(alloc, b"has voted")?)?;
+        add_line(alloc, &mut lines, b"has voted")?;
     }
     Ok(lines)
 }
 
 /// Whether it is a check or a rollback, its number, and who began it.
-fn push_instance(
-    out: &mut Vec<u8>,
-    world: &World<MemStore>,
-    instance: u64,
-) -> Result<(), AllocError> {
+fn push_begun(out: &mut Vec<u8>, world: &World<MemStore>, instance: u64) -> Result<(), AllocError>
+    ensures { OnOk result
+        (out.new.items ≡ out.old.items ++ begun_text (instance_row world.now.state.content instance)) }
+{
     let begun = world
         .store()
         .board()
@@ -119,9 +150,45 @@ fn push_instance(
         Purpose::Check => out.extend_from_slice(b"check ")?,
         Purpose::Rollback => out.extend_from_slice(b"rollback ")?,
     }
-    push_number(out, instance)?;
+    push_number(out, row.instance)?;
     out.extend_from_slice(b" of ")?;
     row.initiator.write_to(out)
+}
+
+/// Puts a line with those whose votes are missing behind the others, where there are such.
+fn add_awaited(alloc: Global, lines: &mut Vec<Vec<u8>>, ballot: &Ballot) -> Result<(), AllocError>
+    ensures { OnOk result (text_of lines.new.items
+        ≡ text_of lines.old.items ++ awaited_lines (filter (is_awaited ballot.now) all_nodes)) }
+{
+    let mut awaited = Vec::new(alloc);
+    for node in &ALL_NODES {
+        if ballot.awaits(*node) {
+            awaited.push(*node)?;
+        }
+    }
+    if awaited.is_empty() {
+        return Ok(());
+    }
+    let mut line = Vec::new(alloc);
+    line.extend_from_slice(b"waits for the votes of ")?;
+    push_names(&mut line, &awaited)?;
+    lines.push(line)?;
+    Ok(())
+}
+
+/// Names with a comma between each two.
+fn push_names(out: &mut Vec<u8>, nodes: &[NodeId]) -> Result<(), AllocError>
+    ensures { OnOk result (out.new.items ≡ out.old.items ++ names_text nodes.now) }
+{
+    let Some((first, others)) = nodes.split_first() else {
+        return Ok(());
+    };
+    first.write_to(out)?;
+    for node in others {
+        out.extend_from_slice(b", ")?;
+        node.write_to(out)?;
+    }
+    Ok(())
 }
 
 /// What the worker waits for, or what it asks next; nothing while it is down.
@@ -129,13 +196,12 @@ fn request_lines(
     alloc: Global,
     world: &World<MemStore>,
     node: NodeId,
-) -> Result<Vec<Vec<u8>>, AllocError> {
+) -> Result<Vec<Vec<u8>>, AllocError>
+    ensures { IfOk result (λ lines. text_of lines.items
+        ≡ request_lines (script_in world.now.state.scene node) (option_and_then (node world.now.state node) worker_of)) }
+{
     let mut lines = Vec::new(alloc);
-    let worker = match world.node(node) {
-        Some(found) => found.worker(),
-        None => None,
-    };
-    if let Some(worker) = worker {
+    if let Some(worker) = worker_at(world, node) {
         lines.push(request_line(alloc, world, node, worker)?)?;
     }
     Ok(lines)
@@ -146,13 +212,14 @@ fn request_line(
     world: &World<MemStore>,
     node: NodeId,
     worker: &Worker,
-) -> Result<Vec<u8>, AllocError> {
+) -> Result<Vec<u8>, AllocError>
+    ensures { IfOk result (λ line.
+        line.items ≡ request_line (script_in world.now.state.scene node) worker.now worker.now.asked) }
+{
     let mut line = Vec::new(alloc);
     if let Some(op) = worker.asked() {
         line.extend_from_slice(b"waits for ")?;
-        push_number(&mut line, worker.number())?;
-        line.extend_from_slice(b": ")?;
-        op.write_to(&mut line)?;
+        push_numbered(&mut line, worker.number(), op)?;
         return Ok(line);
     }
     let next = match world.scene().script_of(node) {
@@ -162,17 +229,26 @@ fn request_line(
     match next {
         Some((number, op)) => {
             line.extend_from_slice(b"next ")?;
-            push_number(&mut line, number)?;
-            line.extend_from_slice(b": ")?;
-            op.write_to(&mut line)?;
+            push_numbered(&mut line, number, &op)?;
         }
         None => line.extend_from_slice(b"script done")?,
     }
     Ok(line)
 }
 
+/// The number of a request, and what it asks for.
+fn push_numbered(out: &mut Vec<u8>, number: u64, op: &Op) -> Result<(), AllocError>
+    ensures { OnOk result (out.new.items ≡ out.old.items ++ numbered_text number op.now) }
+{
+    push_number(out, number)?;
+    out.extend_from_slice(b": ")?;
+    op.write_to(out)
+}
+
 /// The shard's tuples in order of arrival, one a line.
-fn tuple_lines(alloc: Global, shard: Option<&Shard>) -> Result<Vec<Vec<u8>>, AllocError> {
+fn tuple_lines(alloc: Global, shard: Option<&Shard>) -> Result<Vec<Vec<u8>>, AllocError>
+    ensures { IfOk result (λ lines. text_of lines.items ≡ tuple_lines (option_map (λ y. y.now.state) shard)) }
+{
     let mut lines = Vec::new(alloc);
     let Some(shard) = shard else {
         return Ok(lines);
@@ -188,23 +264,42 @@ fn tuple_lines(alloc: Global, shard: Option<&Shard>) -> Result<Vec<Vec<u8>>, All
 }
 
 /// Who waits at the shard, and for what.
-fn waiting_lines(alloc: Global, shard: Option<&Shard>) -> Result<Vec<Vec<u8>>, AllocError> {
+fn waiting_lines(alloc: Global, shard: Option<&Shard>) -> Result<Vec<Vec<u8>>, AllocError>
+    ensures { IfOk result (λ lines. text_of lines.items ≡ waiting_lines (option_map (λ y. y.now.state) shard)) }
+{
     let mut lines = Vec::new(alloc);
     let Some(shard) = shard else {
         return Ok(lines);
     };
-    for worker in 1..MAX_WORKERS + 1 {
-        if let Some(request) = shard.waiting(worker) {
-            let mut line = Vec::new(alloc);
-            NodeId::Worker(worker).write_to(&mut line)?;
-            line.push(b'.')?;
-            push_number(&mut line, request.number)?;
-            line.push(b' ')?;
-            request.op.write_to(&mut line)?;
-            lines.push(line)?;
-        }
+    for node in &ALL_NODES {
+        add_waiting(alloc, &mut lines, shard, *node)?;
     }
     Ok(lines)
+}
+
+/// Puts the line of the worker behind the others, where it waits at the shard.
+fn add_waiting(
+    alloc: Global,
+    lines: &mut Vec<Vec<u8>>,
+    shard: &Shard,
+    node: NodeId,
+) -> Result<(), AllocError>
+    ensures { OnOk result (text_of lines.new.items ≡ text_of lines.old.items ++ waiting_of shard.now.state node) }
+{
+    let NodeId::Worker(worker) = node else {
+        return Ok(());
+    };
+    let Some(request) = shard.waiting(worker) else {
+        return Ok(());
+    };
+    let mut line = Vec::new(alloc);
+    node.write_to(&mut line)?;
+    line.push(b'.')?;
+    push_number(&mut line, request.number)?;
+    line.push(b' ')?;
+    request.op.write_to(&mut line)?;
+    lines.push(line)?;
+    Ok(())
 }
 
 /// What the node keeps back, in order of arrival.
@@ -212,7 +307,9 @@ fn kept_lines(
     alloc: Global,
     world: &World<MemStore>,
     node: NodeId,
-) -> Result<Vec<Vec<u8>>, AllocError> {
+) -> Result<Vec<Vec<u8>>, AllocError>
+    ensures { IfOk result (λ lines. text_of lines.items ≡ kept_lines world.now.state node) }
+{
     let mut lines = Vec::new(alloc);
     for place in 0..world.kept_len(node) {
         if let Some((from, app)) = world.kept_at(node, place) {
@@ -229,7 +326,9 @@ fn saved_lines(
     alloc: Global,
     world: &World<MemStore>,
     node: NodeId,
-) -> Result<Vec<Vec<u8>>, AllocError> {
+) -> Result<Vec<Vec<u8>>, AllocError>
+    ensures { IfOk result (λ lines. text_of lines.items ≡ saved_lines world.now.state node) }
+{
     let mut lines = Vec::new(alloc);
     let mut line = Vec::new(alloc);
     push_count(&mut line, world.history().line(node).len() as u64, b"act")?;

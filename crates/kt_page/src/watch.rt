@@ -1,6 +1,12 @@
 //! The steps of a scene made one by one, and what changes of the cells by each.
 //! Cited by page.rt.
 
+ghost use Rattle.std.specs.Prelude.{◌≡◌, IfOk};
+ghost use Rattle.kt_model.specs.Reached.{opening};
+ghost use Rattle.kt_trace.specs.Rows.{behind};
+ghost use Rattle.kt_page.specs.Cells.{cells_of};
+ghost use Rattle.kt_page.specs.Splice.{cells_text};
+
 use crate::cells::cells_of;
 use crate::json::push_changes;
 use kt_core::{Scene, Step, World};
@@ -27,7 +33,10 @@ pub(crate) fn watch(
     scene: Scene,
     steps: &[Step],
     first: u64,
-) -> Result<Watched, AllocError> {
+) -> Result<Watched, AllocError>
+    ensures cells { IfOk result (λ watched. cells_text watched.cells.items ≡ cells_of watched.story.state) }
+    ensures state { IfOk result (λ watched. watched.story.state ≡ behind (opening scene) steps.now) }
+{
     let mut world = match World::open(alloc, scene, MemStore::new(alloc)) {
         Ok(world) => world,
         // A fresh store in memory refuses for want of memory alone.
@@ -69,7 +78,9 @@ fn shown(
     world: &World<MemStore>,
     old: &[Vec<Vec<u8>>],
     changes: &mut Vec<Vec<u8>>,
-) -> Result<Vec<Vec<Vec<u8>>>, AllocError> {
+) -> Result<Vec<Vec<Vec<u8>>>, AllocError>
+    ensures { IfOk result (λ cells. cells_text cells.items ≡ cells_of world.now.state) }
+{
     let cells = cells_of(alloc, world)?;
     let mut text = Vec::new(alloc);
     push_changes(&mut text, 0, old, &cells)?;

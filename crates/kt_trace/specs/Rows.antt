@@ -1,6 +1,6 @@
 -- What is told of a step: a row of what it is between the state before it and the state behind it. And the trace: the
 -- rows of the steps that are made, in order, up to the first that is refused.
--- Cited by Sending, Stepped, Tracing, glimpse.rt, specs/auxiliary/Glimpses, tracing.rt, `tracing::trace_on`; other
+-- Cited by Going, Sending, Stepped, glimpse.rt, specs/auxiliary/Glimpses, tracing.rt, `tracing::trace_on`; other
 --   crates.
 use Rattle.std.specs.Prelude.{ℕ, ◌+◌, ◌-◌, nat_lt, true, false, List, [], ◌∷◌, map, drop}
 use Rattle.std.specs.Prelude.{length, slice_get, slice_index_or, Option, None, Some, Result, Ok, Err, unwrap_or}
