@@ -2,6 +2,7 @@
 //! Cited by arrow.rt, words.rt; other crates.
 
 ghost use Rattle.std.specs.Prelude.{◌≡◌, ◌++◌, IfOk, IsTrue, None, OnOk};
+ghost use Rattle.kt_history.specs.Survival.{survives};
 ghost use Rattle.kt_model.specs.Reached.{opening};
 ghost use Rattle.kt_story.specs.Marks.{mark_of};
 ghost use Rattle.kt_story.specs.Story.{IsStoryOf, act_is_lost, act_survives, last_refused, made_rows};
@@ -9,7 +10,7 @@ ghost use Rattle.kt_story.specs.declared.mark.Mark.TheVariants as marks;
 
 use crate::mark::{Mark, mark_of};
 use kt_core::{Scene, Step, World};
-use kt_history::Note;
+use kt_history::{History, Note};
 use kt_losses::{Loss, losses};
 use kt_store::MemStore;
 use kt_trace::{Refused, Traced, TracedStep, trace_on};
@@ -120,14 +121,14 @@ impl Story {
     pub fn survives(&self, row: &TracedStep) -> bool
         ensures { result ≡ act_survives self.now.state.history row.now }
     {
-        matches!(row.note, Some(Note::Act(_))) && self.world.history().survives(row.notes)
+        matches!(row.note, Some(Note::Act(_))) && lasts(self.world.history(), row.notes)
     }
 
     /// Whether the row has an act that does not survive.
     pub fn is_lost(&self, row: &TracedStep) -> bool
         ensures { result ≡ act_is_lost self.now.state.history row.now }
     {
-        matches!(row.note, Some(Note::Act(_))) && !self.world.history().survives(row.notes)
+        matches!(row.note, Some(Note::Act(_))) && !lasts(self.world.history(), row.notes)
     }
 
     /// The mark of the row: a service is marked as one that survives just where the history says so.
@@ -162,6 +163,16 @@ impl Story {
             .iter()
             .find(|row| row.notes == number && row.note.is_some())
     }
+}
+
+/// Whether nothing in the past of the act of this number is lost.
+#[tactic(auto, using(crate::proofs::Deciding::decided))]
+fn lasts(history: &History, number: u64) -> bool
+    ensures { result ≡ survives history.now.notes number }
+{
+    // Its clauses say what the answer rests on: each cause comes first.
+    let _notes = history.notes();
+    history.survives(number)
 }
 
 /// Puts the rows of the entries behind the others, and gives the refusal that ends them.
