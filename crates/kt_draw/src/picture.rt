@@ -1,7 +1,7 @@
 //! The whole picture, from its root element to the end of that.
 //! Cited by other crates.
 
-ghost use Rattle.std.specs.Prelude.{◌≡◌, IfOk, OnOk, length};
+ghost use Rattle.std.specs.Prelude.{◌≡◌, IfOk, OnOk};
 ghost use Rattle.kt_draw.specs.Rows.{HasRows, rows_from};
 
 use crate::band::{push_bands, push_rules};
@@ -45,16 +45,14 @@ pub enum Form {
 /// The most rows that a picture is drawn with: more are a matter of choosing them.
 pub const MOST_ROWS: u64 = 1000;
 
-/// How many rows the picture of the story has, from the step of this number on.
-pub fn row_count(story: &Story, first: u64) -> u64
-    ensures { result ≡ length (rows_from first story.now.rows) }
-{
-    rows_from(story, first).len() as u64
-}
-
 /// The picture of the story from the step of this number on, as SVG: a row for each step, in order. Steps are counted
 /// from 1. `AllocError` where memory is wanting.
-pub fn picture(alloc: Global, story: &Story, first: u64, form: Form) -> Result<Vec<u8>, AllocError>
+pub fn picture_of(
+    alloc: Global,
+    story: &Story,
+    first: u64,
+    form: Form,
+) -> Result<Vec<u8>, AllocError>
     ensures drawn { IfOk result (λ text.
         HasRows story.now.state.history (rows_from first story.now.rows) text.items) }
 {

@@ -2,3 +2,4 @@ pub mod Lines
 pub mod Json
 pub mod Splice
 pub mod Cells
+pub mod Drawing

@@ -1,5 +1,9 @@
 //! The whole page.
-//! Cited by no other file of crates/.
+//! Cited by drawing.rt.
+
+ghost use Rattle.std.specs.Prelude.{◌≡◌, IfOk};
+ghost use Rattle.kt_model.specs.Reached.{opening};
+ghost use Rattle.kt_trace.specs.Rows.{behind};
 
 use crate::fate::Fates;
 use crate::json::push_changes;
@@ -9,27 +13,36 @@ use crate::script::SCRIPT;
 use crate::table::push_tables;
 use crate::watch::{Watched, watch};
 use kt_core::{Scene, Step};
-use kt_draw::{Form, picture, tally_of, title_of};
+use kt_draw::{Form, picture_of, tally_of, title_of};
+use kt_story::Story;
 use std::alloc::{AllocError, Global};
 
+/// A drawing, and the story that it is of.
+#[derive(Debug, Drop)]
+pub struct Drawn {
+    /// What happened.
+    pub story: Story,
+    /// The drawing as text.
+    pub text: Vec<u8>,
+}
+
 /// The page of the scene and these steps, up to the first that is refused, as HTML. Those from the step of this number
-/// on are shown; steps are counted from 1. It stands by itself: nothing is fetched. `AllocError` where memory is wanting.
-pub fn page(
-    alloc: Global,
-    scene: Scene,
-    steps: &[Step],
-    first: u64,
-) -> Result<Vec<u8>, AllocError> {
+/// on are shown; steps are counted from 1. It stands by itself: nothing is fetched. `AllocError` where memory is
+/// wanting.
+pub fn page_of(alloc: Global, scene: Scene, steps: &[Step], first: u64) -> Result<Drawn, AllocError>
+    ensures state { IfOk result (λ drawn. drawn.story.state ≡ behind (opening scene) steps.now) }
+{
     let watched = watch(alloc, scene, steps, first)?;
     let count = watched.story.rows().len() as u64;
     let first = first.max(1).min(count.saturating_add(1));
     let fates = Fates::of(alloc, &watched.story)?;
-    let mut out = Vec::new(alloc);
-    push_top(alloc, &mut out, &watched, first)?;
-    push_controls(&mut out, &watched.story, first)?;
-    push_main(alloc, &mut out, &watched, &fates, first)?;
-    push_script(alloc, &mut out, &watched, &fates, first)?;
-    Ok(out)
+    let mut text = Vec::new(alloc);
+    push_top(alloc, &mut text, &watched, first)?;
+    push_controls(&mut text, &watched.story, first)?;
+    push_main(alloc, &mut text, &watched, &fates, first)?;
+    push_script(alloc, &mut text, &watched, &fates, first)?;
+    let Watched { story, .. } = watched;
+    Ok(Drawn { story, text })
 }
 
 /// The head of the page, its title and what it says of the whole.
@@ -76,7 +89,7 @@ fn push_main(
     out.extend_from_slice(
         b"<div class=\"scroll\" id=\"frame\" tabindex=\"0\" role=\"region\" aria-labelledby=\"seen\">",
     )?;
-    out.extend_from_slice(&picture(alloc, story, first, Form::InPage)?)?;
+    out.extend_from_slice(&picture_of(alloc, story, first, Form::InPage)?)?;
     out.extend_from_slice(b"</div></section>\n<section class=\"state\" tabindex=\"0\" ")?;
     out.extend_from_slice(
         b"aria-labelledby=\"state\"><h2 id=\"state\">State after the step</h2>\n",

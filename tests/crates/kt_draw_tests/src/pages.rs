@@ -1,13 +1,16 @@
 //! Small pages.
 
 use crate::scenes::{LOSES, NO_STEPS, PUT_AND_TAKE, REFUSED, count_of, has_all, read};
-use kt_page::page;
+use kt_core::StepError;
+use kt_page::{DrawFault, Drawing, Drawn, Kind, page_of, write_drawing};
+use kt_scene::{Nobody, ReplayFault, Sink, Source};
 use std::alloc::Global;
 use std::test::Fail;
 
-fn page_of(alloc: Global, text: &str, first: u64) -> Result<Vec<u8>, Fail> {
+fn drawn(alloc: Global, text: &str, first: u64) -> Result<Vec<u8>, Fail> {
     let (scene, steps) = read(alloc, text)?;
-    Ok(page(alloc, scene, &steps, first)?)
+    let Drawn { text, .. } = page_of(alloc, scene, &steps, first)?;
+    Ok(text)
 }
 
 /// What changes by each step: cells are those of w1, then of s1, of both links, of the service, and the tally.
@@ -27,7 +30,7 @@ const CHANGES: &str = "id=\"changes\">[
 #[test]
 fn changes(rt: HostRuntime) -> Result<(), Fail> {
     let alloc = rt.alloc();
-    let text = page_of(alloc, LOSES, 1)?;
+    let text = drawn(alloc, LOSES, 1)?;
     assert_eq!(rt; count_of(&text, CHANGES), 1);
     Ok(())
 }
@@ -36,7 +39,7 @@ fn changes(rt: HostRuntime) -> Result<(), Fail> {
 #[test]
 fn parts(rt: HostRuntime) -> Result<(), Fail> {
     let alloc = rt.alloc();
-    let text = page_of(alloc, PUT_AND_TAKE, 1)?;
+    let text = drawn(alloc, PUT_AND_TAKE, 1)?;
     let parts = [
         "<h1>1 worker, 1 shard, 7 steps</h1>",
         "<p>2 services survive, 0 are lost.",
@@ -59,14 +62,79 @@ fn parts(rt: HostRuntime) -> Result<(), Fail> {
 #[test]
 fn ends(rt: HostRuntime) -> Result<(), Fail> {
     let alloc = rt.alloc();
-    let text = page_of(alloc, PUT_AND_TAKE, 6)?;
+    let text = drawn(alloc, PUT_AND_TAKE, 6)?;
     let parts = ["min=\"5\" max=\"7\"", "After step 5", "<li id=\"step-6\""];
     assert!(rt; has_all(&text, &parts));
-    let text = page_of(alloc, REFUSED, 1)?;
+    let text = drawn(alloc, REFUSED, 1)?;
     assert!(rt; has_all(&text, &["<li value=\"3\">serve s1 w2 0 is refused: 4 NoSuchMatch</li>"]));
     for first in [0u64, 1, 9] {
-        let text = page_of(alloc, NO_STEPS, first)?;
+        let text = drawn(alloc, NO_STEPS, first)?;
         assert!(rt; has_all(&text, &["min=\"0\" max=\"0\"", "no step was made", "id=\"changes\">[\n[["]));
     }
+    Ok(())
+}
+
+/// What is answered, and what is written.
+fn written(
+    alloc: Global,
+    text: &str,
+    drawing: Drawing,
+) -> (Result<(), DrawFault>, Vec<u8>) {
+    let mut writer = Sink::new(Vec::new(alloc));
+    let mut reader = Source::new(text.as_bytes());
+    let answer = write_drawing(alloc, &mut reader, &mut writer, drawing, &mut Nobody);
+    (answer, writer.into_inner())
+}
+
+/// A picture to a step is the picture of the steps up to it, and a page is written too.
+#[test]
+fn from_bytes_to_bytes(rt: HostRuntime) -> Result<(), Fail> {
+    let alloc = rt.alloc();
+    let drawing = Drawing {
+        kind: Kind::Picture,
+        from: 1,
+        to: 4,
+    };
+    let (answer, text) = written(alloc, PUT_AND_TAKE, drawing);
+    assert_eq!(rt; answer, Ok(()));
+    assert!(rt; has_all(&text, &["<svg xmlns", "1 worker, 1 shard, 4 steps", "</svg>"]));
+    let whole = Drawing {
+        kind: Kind::Page,
+        from: 1,
+        to: u64::MAX,
+    };
+    let (answer, text) = written(alloc, PUT_AND_TAKE, whole);
+    assert_eq!(rt; answer, Ok(()));
+    assert!(rt; text == drawn(alloc, PUT_AND_TAKE, 1)?);
+    Ok(())
+}
+
+/// A step that is refused is drawn and answered. A text that is no scenario leaves nothing written, nor do too many steps.
+#[test]
+fn faults(rt: HostRuntime) -> Result<(), Fail> {
+    let alloc = rt.alloc();
+    let all = Drawing {
+        kind: Kind::Picture,
+        from: 1,
+        to: u64::MAX,
+    };
+    let (answer, text) = written(alloc, REFUSED, all);
+    let refused = ReplayFault::Step {
+        at: 3,
+        cause: StepError::NoSuchMatch,
+    };
+    assert_eq!(rt; answer, Err(DrawFault::Replay(refused)));
+    assert!(rt; has_all(&text, &["serve s1 w2 0 is refused: 4 NoSuchMatch"]));
+    let (answer, text) = written(alloc, "linda-kt 1\n", all);
+    assert!(rt; matches!(answer, Err(DrawFault::Replay(ReplayFault::Scene { .. }))));
+    assert!(rt; text.is_empty());
+    let mut many = String::from_str(alloc, NO_STEPS.strip_suffix("end\n").unwrap_or(""))?;
+    for _ in 0..1001u32 {
+        many.push_str("repeat w1\n")?;
+    }
+    many.push_str("end\n")?;
+    let (answer, text) = written(alloc, many.as_str(), all);
+    assert_eq!(rt; answer, Err(DrawFault::TooMany { steps: 1001 }));
+    assert!(rt; text.is_empty());
     Ok(())
 }

@@ -1,7 +1,7 @@
 //! Places, text and small pictures, worked out by hand.
 
 use crate::scenes::{LOSES, NO_STEPS, PUT_AND_TAKE, REFUSED, count_of, has_all, story_of};
-use kt_draw::{Form, Plane, picture, push_escaped};
+use kt_draw::{Form, Plane, picture_of, push_escaped};
 use kt_tuple::NodeId;
 use std::test::Fail;
 
@@ -56,7 +56,7 @@ fn escaping(rt: HostRuntime) -> Result<(), Fail> {
 fn a_lost_service(rt: HostRuntime) -> Result<(), Fail> {
     let alloc = rt.alloc();
     let story = story_of(alloc, LOSES)?;
-    let text = picture(alloc, &story, 1, Form::Alone)?;
+    let text = picture_of(alloc, &story, 1, Form::Alone)?;
     let parts = [
         "<title id=\"picture-title\">1 worker, 1 shard, 4 steps</title>\n",
         "0 services survive, 1 is lost",
@@ -74,7 +74,7 @@ fn a_lost_service(rt: HostRuntime) -> Result<(), Fail> {
 fn each_step_once(rt: HostRuntime) -> Result<(), Fail> {
     let alloc = rt.alloc();
     let story = story_of(alloc, PUT_AND_TAKE)?;
-    let text = picture(alloc, &story, 1, Form::Alone)?;
+    let text = picture_of(alloc, &story, 1, Form::Alone)?;
     let numbers = [
         "y=\"89\">1</text>",
         "y=\"107\">2</text>",
@@ -91,7 +91,7 @@ fn each_step_once(rt: HostRuntime) -> Result<(), Fail> {
     // Two services, each twice, and the legend.
     assert_eq!(rt; count_of(&text, "href=\"#kept\""), 5);
     assert_eq!(rt; count_of(&text, "href=\"#lost\""), 0);
-    let again = picture(alloc, &story_of(alloc, PUT_AND_TAKE)?, 1, Form::Alone)?;
+    let again = picture_of(alloc, &story_of(alloc, PUT_AND_TAKE)?, 1, Form::Alone)?;
     assert!(rt; text == again);
     Ok(())
 }
@@ -101,10 +101,10 @@ fn each_step_once(rt: HostRuntime) -> Result<(), Fail> {
 fn from_a_step_on(rt: HostRuntime) -> Result<(), Fail> {
     let alloc = rt.alloc();
     let story = story_of(alloc, PUT_AND_TAKE)?;
-    let text = picture(alloc, &story, 4, Form::Alone)?;
+    let text = picture_of(alloc, &story, 4, Form::Alone)?;
     assert!(rt; has_all(&text, &["1 worker, 1 shard, steps 4 to 7", "class=\"reply m late\"", ">4</text>"]));
     assert_eq!(rt; count_of(&text, ">3</text>"), 0);
-    let text = picture(alloc, &story, 9, Form::Alone)?;
+    let text = picture_of(alloc, &story, 9, Form::Alone)?;
     assert!(rt; has_all(&text, &["1 worker, 1 shard, no steps", "no step was made"]));
     Ok(())
 }
@@ -113,9 +113,9 @@ fn from_a_step_on(rt: HostRuntime) -> Result<(), Fail> {
 #[test]
 fn ends(rt: HostRuntime) -> Result<(), Fail> {
     let alloc = rt.alloc();
-    let text = picture(alloc, &story_of(alloc, REFUSED)?, 1, Form::Alone)?;
+    let text = picture_of(alloc, &story_of(alloc, REFUSED)?, 1, Form::Alone)?;
     assert!(rt; has_all(&text, &["2 workers, 1 shard, 2 steps", "serve s1 w2 0 is refused: 4 NoSuchMatch"]));
-    let text = picture(alloc, &story_of(alloc, NO_STEPS)?, 1, Form::Alone)?;
+    let text = picture_of(alloc, &story_of(alloc, NO_STEPS)?, 1, Form::Alone)?;
     assert!(rt; has_all(&text, &["1 worker, 1 shard, no steps", "no step was made"]));
     Ok(())
 }
