@@ -3,7 +3,8 @@
 use Rattle.std.specs.Prelude.{ℕ, ◌+◌, ◌-◌, ◌*◌, ◌/◌, min, max}
 use Rattle.kt_tuple.specs.declared.node.NodeId.{NodeId}
 use Rattle.kt_tuple.specs.declared.node.NodeId.TheVariants.{Worker, Shard}
-use Rattle.kt_draw.specs.declared.plane.TheConstants.{ROW, BAND, TITLE, NUMBERS, GAP, BLOCK, SHORT, WIDE, NARROWEST, WIDEST}
+use Rattle.kt_draw.specs.declared.plane.TheConstants.{ROW, BAND, TITLE, NUMBERS, GAP, BLOCK, SHORT}
+use Rattle.kt_draw.specs.declared.plane.TheConstants.{WIDE, NARROWEST, WIDEST}
 
 -- how many bands a picture of so many rows has: one above each block, but for a short last one
 abbrev pub bands : ℕ → ℕ

@@ -1,12 +1,12 @@
 //! A picture of what happens in a scenario, as SVG: a column for each node, a row for each step.
 //!
-//! - Contract: each step has one row, in order, with its number and its mark: that of a service that survives just where
-//!   the history says so (`picture_of`, clause `drawn`). Rows and columns stand apart (laws
+//! - Contract: each step has one row, in order, with its number and its mark: that of a service that survives just
+//!   where the history says so (`picture_of`, clause `drawn`). Rows and columns stand apart (laws
 //!   `rows_stand_one_below_the_other`, `columns_stand_side_by_side`). Text is written without signs of markup
 //!   (`push_escaped`, and the law `what_is_escaped_has_no_markup`).
 //! - Stands on: kt_tuple, kt_history, kt_state, kt_trace, kt_tell, kt_story
-//! - Begin in: `picture.rt`, then `row.rt` for a row and `plane.rt` for what stands where. How rows are drawn is defined
-//!   in specs/Rows.antt.
+//! - Begin in: `picture.rt`, then `row.rt` for a row and `plane.rt` for what stands where. How rows are drawn is
+//!   defined in specs/Rows.antt.
 #![tactic(auto)]
 
 mod band;

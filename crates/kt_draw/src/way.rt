@@ -7,7 +7,8 @@ use kt_story::{Arrow, Kind};
 use kt_tuple::writing::push_number;
 use std::alloc::AllocError;
 
-/// How far a line stands from the middle of a column, and how long its stub is where the other end is not in the picture.
+/// How far a line stands from the middle of a column, and how long its stub is where the other end is not in the
+/// picture.
 const FROM: u64 = 7;
 
 const TO: u64 = 8;

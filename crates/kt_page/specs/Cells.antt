@@ -1,7 +1,7 @@
 -- What the cells of a page show of a state: lines of text.
 -- Cited by cells.rt, node_cells.rt, watch.rt.
-use Rattle.std.specs.Prelude.{ℕ, Bool, true, false, if◌then◌else◌, List, [], ◌∷◌, ◌++◌, codes, decimal, filter, length, map}
-use Rattle.std.specs.Prelude.{Option, None, Some, option_and_then}
+use Rattle.std.specs.Prelude.{ℕ, Bool, true, false, if◌then◌else◌, List, [], ◌∷◌, ◌++◌, codes, decimal, filter}
+use Rattle.std.specs.Prelude.{length, map, Option, None, Some, option_and_then}
 use Rattle.std.specs.List.{flat_map}
 use Rattle.kt_tuple.specs.declared.node.NodeId.{NodeId}
 use Rattle.kt_tuple.specs.declared.node.NodeId.TheVariants.{Worker, Shard}
@@ -162,7 +162,8 @@ saved_lines s p = let row = row_of s.content p in
 abbrev pub node_cells : State → NodeId → List Lines
 node_cells s (Worker n) = let p = Worker n in
     (mode_word (mode_at s p) ∷ []) ∷ part_lines s.content (poll_at s p)
-    ∷ request_lines (script_in s.scene p) (option_and_then (node s p) worker_of) ∷ kept_lines s p ∷ saved_lines s p ∷ []
+    ∷ request_lines (script_in s.scene p) (option_and_then (node s p) worker_of)
+    ∷ kept_lines s p ∷ saved_lines s p ∷ []
 node_cells s (Shard n) = let p = Shard n in let y = option_and_then (node s p) shard_of in
     (mode_word (mode_at s p) ∷ []) ∷ part_lines s.content (poll_at s p) ∷ tuple_lines y ∷ waiting_lines y
     ∷ kept_lines s p ∷ saved_lines s p ∷ []

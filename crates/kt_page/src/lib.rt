@@ -6,9 +6,9 @@
 //!   page without signs of markup, and in the script's data without `<` (`push_escaped` of kt_draw, `push_string`).
 //! - Stands on: kt_tuple, kt_script, kt_space, kt_shard, kt_worker, kt_vote, kt_history, kt_ckpt, kt_store, kt_state,
 //!   kt_model, kt_core, kt_scene, kt_trace, kt_tell, kt_story, kt_draw
-//! - Begin in: `drawing.rt`, which goes from bytes to bytes, and `page.rt`, then `watch.rt` for what changes from step to
-//!   step, `cells.rt` for what is shown of a world, and `fate.rt` for what became of services. `look.rt` and `script.rt`
-//!   are constant text.
+//! - Begin in: `drawing.rt`, which goes from bytes to bytes, and `page.rt`, then `watch.rt` for what changes from step
+//!   to step, `cells.rt` for what is shown of a world, and `fate.rt` for what became of services. `look.rt` and
+//!   `script.rt` are constant text.
 #![tactic(auto)]
 
 mod cells;

@@ -197,8 +197,8 @@ fn request_lines(
     world: &World<MemStore>,
     node: NodeId,
 ) -> Result<Vec<Vec<u8>>, AllocError>
-    ensures { IfOk result (λ lines. text_of lines.items
-        ≡ request_lines (script_in world.now.state.scene node) (option_and_then (node world.now.state node) worker_of)) }
+    ensures { IfOk result (λ lines. text_of lines.items ≡ request_lines
+        (script_in world.now.state.scene node) (option_and_then (node world.now.state node) worker_of)) }
 {
     let mut lines = Vec::new(alloc);
     if let Some(worker) = worker_at(world, node) {

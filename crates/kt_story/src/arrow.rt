@@ -43,8 +43,8 @@ pub enum Kind {
     RollVerdict,
 }
 
-/// All messages, in the order in which they were sent. A link is first in, first out: what arrives on it is what was sent
-/// first of what is on its way there.
+/// All messages, in the order in which they were sent. A link is first in, first out: what arrives on it is what was
+/// sent first of what is on its way there.
 pub fn arrows(alloc: Global, story: &Story) -> Result<Vec<Arrow>, AllocError> {
     let mut ways = Links::new(alloc, story.workers(), story.shards())?;
     let mut checks = Vec::new(alloc);

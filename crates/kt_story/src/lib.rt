@@ -6,7 +6,8 @@
 //!   `survives`).
 //! - Stands on: kt_tuple, kt_link, kt_history, kt_losses, kt_scenario, kt_store, kt_state, kt_model, kt_core, kt_trace,
 //!   kt_tell
-//! - Begin in: `story.rt`, then `mark.rt` for what marks a step, `arrow.rt` for messages, and `words.rt` for what is said.
+//! - Begin in: `story.rt`, then `mark.rt` for what marks a step, `arrow.rt` for messages, and `words.rt` for what is
+//!   said.
 #![tactic(auto)]
 
 mod arrow;

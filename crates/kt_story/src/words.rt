@@ -14,8 +14,8 @@ use kt_tuple::writing::push_number;
 use kt_tuple::{Answer, NodeId, Op};
 use std::alloc::{AllocError, Global};
 
-/// The arrow between what was asked and what was got. All else that is said is ASCII from 32 to 126; who writes it for a
-/// reader puts an arrow in its place.
+/// The arrow between what was asked and what was got. All else that is said is ASCII from 32 to 126; who writes it for
+/// a reader puts an arrow in its place.
 pub const ARROW: u8 = 26;
 
 /// The most characters of a row's text.

@@ -4,8 +4,8 @@
 //!   `text`; `write_trace`, clause `ends`).
 //! - Stands on: kt_tuple, kt_link, kt_shard, kt_vote, kt_history, kt_scenario, kt_text, kt_store, kt_show, kt_state,
 //!   kt_model, kt_core, kt_scene, kt_trace; of the kit: json
-//! - Begin in: `words.rt`, then `heads.rt` and `tails.rt` for the two halves of a line and `names.rt` for its words. What
-//!   each line says is defined in specs/Words.antt and specs/Shape.antt. `telling.rt` goes from bytes to bytes.
+//! - Begin in: `words.rt`, then `heads.rt` and `tails.rt` for the two halves of a line and `names.rt` for its words.
+//!   What each line says is defined in specs/Words.antt and specs/Shape.antt. `telling.rt` goes from bytes to bytes.
 #![tactic(auto)]
 
 mod choice;

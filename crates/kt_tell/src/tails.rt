@@ -4,8 +4,8 @@
 ghost use Rattle.std.specs.Prelude.{◌≡◌, ◌++◌, OnOk};
 ghost use Rattle.std.specs.List.{flat_map};
 ghost use Rattle.kt_tuple.specs.Spelling.{node_text};
-ghost use Rattle.kt_tell.specs.Words.{back_text, begun_text, from_down, ruling_text, saving_text, sent_text, services_text};
-ghost use Rattle.kt_tell.specs.Words.{tail_text, turn_text, undone_text};
+ghost use Rattle.kt_tell.specs.Words.{back_text, begun_text, from_down, ruling_text, saving_text, sent_text};
+ghost use Rattle.kt_tell.specs.Words.{services_text, tail_text, turn_text, undone_text};
 ghost use Rattle.std.specs.Option.{option_copied};
 
 use crate::heads::push_instance;

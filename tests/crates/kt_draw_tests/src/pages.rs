@@ -109,7 +109,8 @@ fn from_bytes_to_bytes(rt: HostRuntime) -> Result<(), Fail> {
     Ok(())
 }
 
-/// A step that is refused is drawn and answered. A text that is no scenario leaves nothing written, nor do too many steps.
+/// A step that is refused is drawn and answered. A text that is no scenario leaves nothing written, and so do too many
+/// steps.
 #[test]
 fn faults(rt: HostRuntime) -> Result<(), Fail> {
     let alloc = rt.alloc();
