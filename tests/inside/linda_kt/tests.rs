@@ -1,7 +1,7 @@
 //! The program from its words to its output, its line on the errors and its status.
 use crate::files::Files;
 use crate::program::run_program;
-use kt_command::end_replay;
+use kt_command::{Terminals, end_replay};
 use kt_scene::{OpenError, ReplayFault, Sink, Source, StepError};
 use kt_store::StoreError;
 use std::io;
@@ -54,6 +54,12 @@ const SATURATING_SET_REPORT: &str = "survivors 3\nw1.1 out (9223372036854775807)
 w1.2 in (?int) got (9223372036854775807)\nw1.3 out (9223372036854775807) done\nlost 0\nspace 1\n\
 (9223372036854775807)\npermanent 0\n";
 
+/// No stream is a terminal.
+pub const NOBODY: Terminals = Terminals {
+    is_typed: false,
+    is_watched: false,
+};
+
 /// What a run left.
 #[derive(Debug, Drop, PartialEq)]
 pub struct Ended {
@@ -84,7 +90,7 @@ fn run_with<T: Threads + Wait + Sync, R: Read, W: Write, E: Write>(
         reader,
         writer,
         errors,
-        false,
+        NOBODY,
     )
 }
 
@@ -279,13 +285,16 @@ fn words(rt: HostRuntime) -> Result<(), Fail> {
             .starts_with("error: 'linda_kt' requires a subcommand")
     );
     assert!(rt; none.output.is_empty() && none.status == 2);
-    for word in ["walk", "--store", "help", ""] {
+    for word in ["walk", "--store", ""] {
         let ended = run(&rt, &rt, &[word], NO_STEPS)?;
         assert!(rt; ended.errors.as_str().starts_with("error: un"), "{word}");
         assert!(rt; ended.output.is_empty() && ended.status == 2, "{word}");
     }
-    let more = run(&rt, &rt, &["replay", "more"], NO_STEPS)?;
+    let more = run(&rt, &rt, &["replay", "one", "more"], NO_STEPS)?;
     assert!(rt; more.output.is_empty() && more.status == 2);
+    let named = run(&rt, &rt, &["help", "replay"], NO_STEPS)?;
+    let behind = run(&rt, &rt, &["replay", "--help"], NO_STEPS)?;
+    assert!(rt; named.output.as_str() == behind.output.as_str() && named.status == 0);
     Ok(())
 }
 
