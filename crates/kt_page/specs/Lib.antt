@@ -1,0 +1,5 @@
+pub mod Lines
+pub mod Json
+pub mod Splice
+pub mod Cells
+pub mod Drawing

@@ -1,0 +1,45 @@
+-- The trace of what a text spells.
+-- Cited by no other file of crates/.
+use Rattle.std.proofs.Common.{◌≡◌, ℕ, List, Result, ap, ◌∙◌}
+use Rattle.kt_scenario.specs.declared.step.Step.{Step}
+use Rattle.kt_scenario.specs.Scene.{SceneModel}
+use Rattle.kt_text.specs.declared.scenario.WorkKind.TheVariants as kinds
+use Rattle.kt_text.specs.Reading.{lines_of, scenario_of_steps}
+use Rattle.kt_text.specs.Scenario.{IsScenario}
+use Rattle.kt_text.specs.Work.{Work, Faults, Steps, kind_of, steps_of}
+use Rattle.kt_model.specs.Reached.{opening}
+use Rattle.kt_model.specs.State.{State}
+use Rattle.kt_scene.specs.declared.fault.ReplayFault.{ReplayFault}
+use Rattle.kt_tell.specs.declared.choice.Choice.{Choice}
+use Rattle.kt_tell.specs.declared.telling.Form.{Form}
+use Rattle.kt_trace.specs.declared.traced.Traced.{Traced}
+use Rattle.kt_trace.specs.Rows.{trace_from}
+use Rattle.kt_tell.specs.StepLines.{step_lines}
+use Rattle.kt_tell.specs.Told.{IsTold, end_of, told_text, trace_of}
+
+-- a text that spells a scenario with these steps
+steps-spelled : (text : List ℕ) (scene : SceneModel) (work : Work) → kind_of work ≡ kinds.Steps → IsScenario text (record { scene = scene; work = work })
+    → IsScenario text (scenario_of_steps scene (steps_of work))
+steps-spelled text scene (Steps given) kind scenario = scenario
+steps-spelled text scene (Faults lines) kind scenario = absurd (apart kind)
+  where
+    apart : kinds.Faults ≡ kinds.Steps → ⊥
+    apart e = cc (e)
+
+pub is_told : (form : Form) (choice : Choice) (text told : List ℕ) (end : Result (Unit {0}) ReplayFault) (scene : SceneModel) (work : Work)
+    (steps : List Step) → kind_of work ≡ kinds.Steps → IsScenario text (record { scene = scene; work = work }) → steps ≡ steps_of work
+    → told ≡ told_text form choice text scene steps → end ≡ end_of text scene steps
+    → IsTold form choice text told end
+is_told form choice text told end scene work steps kind scenario are is ended = record {
+  scene = scene;
+  steps = steps_of work;
+  scenario = steps-spelled text scene work kind scenario;
+  is = is ∙ ap (told_text form choice text scene) are;
+  ended = ended ∙ ap (end_of text scene) are;
+}
+
+-- the trace from the world that was opened, with the lines of the text
+pub trace_is : (text lines : List ℕ) (scene : SceneModel) (s : State) (steps : List Step) (all : List Traced) → lines ≡ step_lines 1 (lines_of text).0
+    → s ≡ opening scene → all ≡ trace_from lines 1 s steps → all ≡ trace_of text scene steps
+trace_is text lines scene s steps all on begins are =
+    are ∙ ap (λ (l : List ℕ). trace_from l 1 s steps) on ∙ ap (λ (t : State). trace_from (step_lines 1 (lines_of text).0) 1 t steps) begins
