@@ -11,6 +11,7 @@ use crate::carrying::carry_over;
 use crate::checking::check_text;
 use crate::command::Command;
 use crate::completing::complete_in_memory;
+use crate::drawing::draw_in_memory;
 use crate::explainer::{Explained, Explainer};
 use crate::meaning::explain_word;
 use crate::opens::Opens;
@@ -21,8 +22,11 @@ use crate::showing::show_copy;
 use crate::shows::Shows;
 use crate::status::{DONE, STORE, STREAM};
 use crate::texts::Texts;
+use crate::tracing::trace_in_memory;
+use kt_page::Drawing;
 use kt_scene::{Sink, Source};
 use kt_store::CkptStore;
+use kt_tell::{Choice, Form};
 use kt_words::{Shell, completion, manual};
 use std::alloc::Global;
 use std::fmt::Display;
@@ -54,6 +58,18 @@ pub enum Task<'a> {
     Check,
     /// A scenario of steps that was cut short is to be completed.
     Complete,
+    /// What happens in a scenario of steps is to be written, a line for each step.
+    Trace {
+        /// In words or as JSON.
+        form: Form,
+        /// Which steps.
+        choice: Choice,
+    },
+    /// A scenario of steps is to be drawn.
+    Draw {
+        /// As a picture or as a page, and which steps.
+        drawing: Drawing,
+    },
 }
 
 /// How what happened is explained on standard error.
@@ -333,6 +349,12 @@ fn do_task<
         }
         Task::Check => check_text(alloc, reader, writer, errors, explainer),
         Task::Complete => complete_in_memory(alloc, reader, writer, errors, explainer),
+        Task::Trace { form, choice } => {
+            trace_in_memory(alloc, form, choice, reader, writer, errors, explainer)
+        }
+        Task::Draw { drawing } => {
+            draw_in_memory(alloc, drawing, reader, writer, errors, explainer)
+        }
     }
 }
 

@@ -1,8 +1,11 @@
 //! From the bytes of a scenario of steps to the bytes of its picture or of its page.
 //! Cited by no other file of crates/.
 
-ghost use Rattle.std.specs.Prelude.{◌≡◌, IfErr};
-ghost use Rattle.kt_page.specs.Drawing.{IsSilent};
+ghost use Rattle.std.specs.Prelude.{◌≡◌, ◌-◌, IfErr, IfOk, length, take};
+ghost use Rattle.kt_model.specs.Reached.{opening};
+ghost use Rattle.kt_story.specs.Story.{IsStoryOf};
+ghost use Rattle.kt_draw.specs.Rows.{HasRows, rows_from};
+ghost use Rattle.kt_page.specs.Drawing.{EndsDrawing, IsDrawn, IsUndrawn, end_by};
 
 use crate::page::{Drawn, page_of};
 use kt_core::{Scene, Step};
@@ -54,15 +57,16 @@ pub fn write_drawing<R: Read, W: Write, O: Observer>(
     drawing: Drawing,
     observer: &mut O,
 ) -> Result<(), DrawFault>
-    ensures silent { IfErr result (λ fault. IsSilent fault → writer.new ≡ writer.old) }
+    ensures ends { EndsDrawing drawing reader.old reader.new writer.old writer.new result }
 {
-    let text = match read_text(alloc, reader) {
-        Ok(text) => text,
-        Err(fault) => return Err(DrawFault::Replay(fault)),
-    };
-    let drawn = drawn(alloc, &text, drawing, observer)?;
-    match write_text(writer, &drawn.text) {
-        Ok(()) => ending(&drawn.story),
+    match read_text(alloc, reader) {
+        Ok(text) => match drawn(alloc, &text, drawing, observer) {
+            Ok(drawn) => match write_text(writer, &drawn.text) {
+                Ok(()) => ending(&drawn.story),
+                Err(fault) => Err(DrawFault::Replay(fault)),
+            },
+            Err(fault) => Err(fault),
+        },
         Err(fault) => Err(DrawFault::Replay(fault)),
     }
 }
@@ -73,19 +77,25 @@ fn drawn<O: Observer>(
     text: &[u8],
     drawing: Drawing,
     observer: &mut O,
-) -> Result<Drawn, DrawFault> {
+) -> Result<Drawn, DrawFault>
+    ensures drawn { IfOk result (λ drawn. IsDrawn drawing text.now drawn.text.items (end_by drawn.story.refused)) }
+    ensures fault { IfErr result (IsUndrawn drawing text.now) }
+{
     match read_scene(alloc, text, WorkKind::Steps) {
-        Ok(Scenario { scene, work }) => {
+        Ok(scenario) => {
+            let Scenario { scene, work } = scenario;
             let steps = steps_to(work.steps(), drawing.to);
-            let count = (steps.len() as u64).saturating_sub(drawing.from.saturating_sub(1));
+            let count = drawn_count(steps, drawing.from);
             if count > MOST_ROWS {
                 return Err(DrawFault::TooMany { steps: count });
             }
-            let Ok(drawn) = draw(alloc, scene, steps, drawing) else {
-                return Err(DrawFault::Replay(ReplayFault::Memory));
-            };
-            tell(alloc, text, steps, &drawn.story, observer);
-            Ok(drawn)
+            match draw(alloc, scene, steps, drawing) {
+                Ok(drawn) => {
+                    tell(alloc, text, steps, &drawn.story, observer);
+                    Ok(drawn)
+                }
+                Err(AllocError) => Err(DrawFault::Replay(ReplayFault::Memory)),
+            }
         }
         Err(fault) => {
             observer.misread(alloc, text, WorkKind::Steps, fault);
@@ -96,18 +106,32 @@ fn drawn<O: Observer>(
 }
 
 /// The steps up to the one of this number.
-fn steps_to(steps: &[Step], to: u64) -> &[Step] {
+fn steps_to(steps: &[Step], to: u64) -> &[Step]
+    ensures { result.now ≡ take to steps.now }
+{
     let count = to.min(steps.len() as u64);
     let (made, _) = steps.split_at(count as usize);
     made
 }
 
+/// How many of the steps are drawn, from the one of this number on.
+fn drawn_count(steps: &[Step], from: u64) -> u64
+    ensures { result ≡ length steps.now - (from - 1) }
+{
+    (steps.len() as u64).saturating_sub(from.saturating_sub(1))
+}
+
+/// The drawing of these steps, and the story that it is of.
 fn draw(
     alloc: Global,
     scene: Scene,
     steps: &[Step],
     drawing: Drawing,
-) -> Result<Drawn, AllocError> {
+) -> Result<Drawn, AllocError>
+    ensures story { IfOk result (λ drawn. IsStoryOf (opening scene) steps.now drawn.story) }
+    ensures rows { IfOk result (λ drawn.
+        HasRows drawn.story.state.history (rows_from drawing.from drawn.story.rows) drawn.text.items) }
+{
     match drawing.kind {
         Kind::Picture => {
             let story = Story::of(alloc, scene, steps)?;
@@ -131,7 +155,9 @@ fn tell<O: Observer>(alloc: Global, text: &[u8], steps: &[Step], story: &Story, 
 }
 
 /// How the steps ended: by the one that was refused, if one was.
-fn ending(story: &Story) -> Result<(), DrawFault> {
+fn ending(story: &Story) -> Result<(), DrawFault>
+    ensures { result ≡ end_by story.now.refused }
+{
     match story.refused() {
         Some(refused) => Err(DrawFault::Replay(ReplayFault::Step {
             at: refused.number as usize,

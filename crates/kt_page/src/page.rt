@@ -1,9 +1,10 @@
 //! The whole page.
 //! Cited by drawing.rt.
 
-ghost use Rattle.std.specs.Prelude.{◌≡◌, IfOk};
+ghost use Rattle.std.specs.Prelude.{IfOk};
 ghost use Rattle.kt_model.specs.Reached.{opening};
-ghost use Rattle.kt_trace.specs.Rows.{behind};
+ghost use Rattle.kt_story.specs.Story.{IsStoryOf};
+ghost use Rattle.kt_draw.specs.Rows.{HasRows, rows_from};
 
 use crate::fate::Fates;
 use crate::json::push_changes;
@@ -30,19 +31,64 @@ pub struct Drawn {
 /// on are shown; steps are counted from 1. It stands by itself: nothing is fetched. `AllocError` where memory is
 /// wanting.
 pub fn page_of(alloc: Global, scene: Scene, steps: &[Step], first: u64) -> Result<Drawn, AllocError>
-    ensures state { IfOk result (λ drawn. drawn.story.state ≡ behind (opening scene) steps.now) }
+    ensures story { IfOk result (λ drawn. IsStoryOf (opening scene) steps.now drawn.story) }
+    ensures rows { IfOk result (λ drawn.
+        HasRows drawn.story.state.history (rows_from first drawn.story.rows) drawn.text.items) }
 {
     let watched = watch(alloc, scene, steps, first)?;
-    let count = watched.story.rows().len() as u64;
-    let first = first.max(1).min(count.saturating_add(1));
-    let fates = Fates::of(alloc, &watched.story)?;
-    let mut text = Vec::new(alloc);
-    push_top(alloc, &mut text, &watched, first)?;
-    push_controls(&mut text, &watched.story, first)?;
-    push_main(alloc, &mut text, &watched, &fates, first)?;
-    push_script(alloc, &mut text, &watched, &fates, first)?;
+    let text = page(alloc, &watched, first)?;
     let Watched { story, .. } = watched;
     Ok(Drawn { story, text })
+}
+
+/// What stands before the picture, the picture, and what stands behind it.
+fn page(alloc: Global, watched: &Watched, first: u64) -> Result<Vec<u8>, AllocError>
+    ensures { IfOk result (λ text.
+        HasRows watched.now.story.state.history (rows_from first watched.now.story.rows) text.items) }
+{
+    let story = &watched.story;
+    let count = story.rows().len() as u64;
+    let shown = first.max(1).min(count.saturating_add(1));
+    let fates = Fates::of(alloc, story)?;
+    let mut text = front(alloc, watched, shown)?;
+    let picture = picture_of(alloc, story, first, Form::InPage)?;
+    text.extend_from_slice(&picture)?;
+    let rest = rest(alloc, watched, &fates, shown)?;
+    text.extend_from_slice(&rest)?;
+    Ok(text)
+}
+
+/// What stands before the picture.
+fn front(alloc: Global, watched: &Watched, first: u64) -> Result<Vec<u8>, AllocError> {
+    let mut text = Vec::new(alloc);
+    push_top(alloc, &mut text, watched, first)?;
+    push_controls(&mut text, &watched.story, first)?;
+    text.extend_from_slice(b"<main>\n<div class=\"two\">\n<section aria-labelledby=\"seen\">")?;
+    text.extend_from_slice(
+        b"<h2 id=\"seen\">Picture, with what survives after the last step</h2>\n",
+    )?;
+    text.extend_from_slice(
+        b"<div class=\"scroll\" id=\"frame\" tabindex=\"0\" role=\"region\" aria-labelledby=\"seen\">",
+    )?;
+    Ok(text)
+}
+
+/// What stands behind the picture: the tables, the list, and the script with its data.
+fn rest(
+    alloc: Global,
+    watched: &Watched,
+    fates: &Fates,
+    first: u64,
+) -> Result<Vec<u8>, AllocError> {
+    let mut text = Vec::new(alloc);
+    push_state(alloc, &mut text, watched, fates)?;
+    text.extend_from_slice(
+        b"<section aria-labelledby=\"list\"><h2 id=\"list\">All steps</h2>\n",
+    )?;
+    push_list(alloc, &mut text, &watched.story, first)?;
+    text.extend_from_slice(b"</section>\n</main>\n")?;
+    push_script(alloc, &mut text, watched, fates, first)?;
+    Ok(text)
 }
 
 /// The head of the page, its title and what it says of the whole.
@@ -73,34 +119,20 @@ fn push_top(
     )
 }
 
-/// The picture, the tables and the list.
-fn push_main(
+/// The tables of the state behind the last step.
+fn push_state(
     alloc: Global,
     out: &mut Vec<u8>,
     watched: &Watched,
     fates: &Fates,
-    first: u64,
 ) -> Result<(), AllocError> {
-    let story = &watched.story;
-    out.extend_from_slice(b"<main>\n<div class=\"two\">\n<section aria-labelledby=\"seen\">")?;
-    out.extend_from_slice(
-        b"<h2 id=\"seen\">Picture, with what survives after the last step</h2>\n",
-    )?;
-    out.extend_from_slice(
-        b"<div class=\"scroll\" id=\"frame\" tabindex=\"0\" role=\"region\" aria-labelledby=\"seen\">",
-    )?;
-    out.extend_from_slice(&picture_of(alloc, story, first, Form::InPage)?)?;
     out.extend_from_slice(b"</div></section>\n<section class=\"state\" tabindex=\"0\" ")?;
     out.extend_from_slice(
         b"aria-labelledby=\"state\"><h2 id=\"state\">State after the step</h2>\n",
     )?;
     let cells = all_cells(alloc, watched, fates)?;
-    push_tables(out, story.world().scene(), fates, &cells)?;
-    out.extend_from_slice(
-        b"</section>\n</div>\n<section aria-labelledby=\"list\"><h2 id=\"list\">All steps</h2>\n",
-    )?;
-    push_list(alloc, out, story, first)?;
-    out.extend_from_slice(b"</section>\n</main>\n")
+    push_tables(out, watched.story.world().scene(), fates, &cells)?;
+    out.extend_from_slice(b"</section>\n</div>\n")
 }
 
 /// What all cells show behind the last step.
