@@ -31,7 +31,7 @@ pub drawn_all : (begin : TracedStep → List ℕ) (old new : List ℕ) (rows : L
     → IsDrawnBehind begin (take n rows) old new → IsDrawnBehind begin rows old new
 drawn_all begin old new rows n end drawn =
     let P : List TracedStep → Type 0 = λ rs. IsDrawnBehind begin rs old new in
-    subst P (take_all rows n end) drawn
+    subst P (take_all n rows end) drawn
 
 -- a text with rows that are drawn behind a front, and more behind them
 pub has_rows : (sheet : Sheet) (h : List Note) (rows : List TracedStep) (front drawn behind whole : List ℕ)

@@ -158,15 +158,17 @@ saved_lines s p = let row = row_of s.content p in
 
 -- ---- the cells
 
+-- of a worker its request, of a shard its tuples and who waits
+abbrev pub own_cells : State → NodeId → List Lines
+own_cells s (Worker n) = let p = Worker n in
+    request_lines (script_in s.scene p) (option_and_then (node s p) worker_of) ∷ []
+own_cells s (Shard n) = let y = option_and_then (node s (Shard n)) shard_of in tuple_lines y ∷ waiting_lines y ∷ []
+
 -- those of a node
 abbrev pub node_cells : State → NodeId → List Lines
-node_cells s (Worker n) = let p = Worker n in
-    (mode_word (mode_at s p) ∷ []) ∷ part_lines s.content (poll_at s p)
-    ∷ request_lines (script_in s.scene p) (option_and_then (node s p) worker_of)
-    ∷ kept_lines s p ∷ saved_lines s p ∷ []
-node_cells s (Shard n) = let p = Shard n in let y = option_and_then (node s p) shard_of in
-    (mode_word (mode_at s p) ∷ []) ∷ part_lines s.content (poll_at s p) ∷ tuple_lines y ∷ waiting_lines y
-    ∷ kept_lines s p ∷ saved_lines s p ∷ []
+node_cells s p =
+    (mode_word (mode_at s p) ∷ []) ∷ part_lines s.content (poll_at s p) ∷ own_cells s p
+    ++ kept_lines s p ∷ saved_lines s p ∷ []
 
 abbrev pub cells_at : State → NodeId → List Lines
 cells_at s p = if is_node s.scene p then node_cells s p else []

@@ -11,6 +11,7 @@
 //!   `script.rt` are constant text.
 #![tactic(auto)]
 
+mod adding;
 mod cells;
 mod drawing;
 mod fate;

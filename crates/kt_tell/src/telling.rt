@@ -8,14 +8,12 @@ use crate::choice::Choice;
 use crate::lines::step_lines;
 use crate::rows_json::json_of;
 use crate::words::words_of;
-use kt_core::World;
 use kt_scenario::{Scene, Step};
 use kt_scene::{
     Observer, ReplayFault, Scenario, SceneFault, Sink, Source, WorkKind, read_scene, read_text,
     write_text,
 };
-use kt_store::MemStore;
-use kt_trace::{Traced, trace_on};
+use kt_trace::{Traced, trace_on, world_of};
 use std::alloc::{AllocError, Global};
 use std::io::{Read, Write};
 
@@ -102,10 +100,7 @@ fn tell<O: Observer>(
     ensures end { IfOk result (λ told. told.end ≡ end_of text.now scene steps.now) }
 {
     let lines = step_lines(alloc, text)?;
-    let mut world = match World::open(alloc, scene, MemStore::new(alloc)) {
-        Ok(world) => world,
-        Err(_) => return Err(AllocError),
-    };
+    let mut world = world_of(alloc, scene)?;
     let entries = trace_on(alloc, &mut world, steps, &lines)?;
     let end = ending(&entries);
     match end {
