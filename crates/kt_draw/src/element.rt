@@ -2,7 +2,8 @@
 //! Cited by band.rt, legend.rt, life.rt, picture.rt, row.rt, sheet.rt, way.rt.
 
 ghost use Rattle.std.specs.Prelude.{◌≡◌, ◌++◌, OnOk};
-ghost use Rattle.kt_draw.specs.Elements.{box_text, label_text, line_text, number_attribute, use_text};
+ghost use Rattle.kt_draw.specs.Elements.{box_text, label_text, line_text, number_attribute, place_attributes};
+ghost use Rattle.kt_draw.specs.Elements.{point_text, use_text};
 
 use crate::escape::push_escaped;
 use kt_tuple::writing::push_number;
@@ -29,6 +30,23 @@ fn push_attribute(out: &mut Vec<u8>, name: &[u8], number: u64) -> Result<(), All
     Ok(())
 }
 
+/// The attributes of an element that stands at the point.
+fn push_place(out: &mut Vec<u8>, at: Point) -> Result<(), AllocError>
+    ensures { OnOk result (out.new.items ≡ out.old.items ++ place_attributes at) }
+{
+    push_attribute(out, b"x", at.x)?;
+    push_attribute(out, b"y", at.y)
+}
+
+/// The point in a path.
+fn push_point(out: &mut Vec<u8>, at: Point) -> Result<(), AllocError>
+    ensures { OnOk result (out.new.items ≡ out.old.items ++ point_text at) }
+{
+    push_number(out, at.x)?;
+    out.push(b' ')?;
+    push_number(out, at.y)
+}
+
 /// Puts a text of these classes that begins at the point, or stands there as the classes say. The text is escaped.
 pub fn push_label(
     out: &mut Vec<u8>,
@@ -41,8 +59,7 @@ pub fn push_label(
     out.extend_from_slice(b"<text class=\"")?;
     out.extend_from_slice(classes)?;
     out.push(b'"')?;
-    push_attribute(out, b"x", at.x)?;
-    push_attribute(out, b"y", at.y)?;
+    push_place(out, at)?;
     out.push(b'>')?;
     push_escaped(out, text)?;
     out.extend_from_slice(b"</text>\n")
@@ -55,8 +72,7 @@ pub fn push_use(out: &mut Vec<u8>, name: &[u8], at: Point) -> Result<(), AllocEr
     out.extend_from_slice(b"<use href=\"#")?;
     out.extend_from_slice(name)?;
     out.push(b'"')?;
-    push_attribute(out, b"x", at.x)?;
-    push_attribute(out, b"y", at.y)?;
+    push_place(out, at)?;
     out.extend_from_slice(b"/>\n")
 }
 
@@ -72,13 +88,9 @@ pub fn push_line(
     out.extend_from_slice(b"<path class=\"")?;
     out.extend_from_slice(classes)?;
     out.extend_from_slice(b"\" d=\"M")?;
-    push_number(out, from.x)?;
-    out.push(b' ')?;
-    push_number(out, from.y)?;
+    push_point(out, from)?;
     out.push(b'L')?;
-    push_number(out, to.x)?;
-    out.push(b' ')?;
-    push_number(out, to.y)?;
+    push_point(out, to)?;
     out.extend_from_slice(b"\"/>\n")
 }
 
@@ -95,8 +107,7 @@ pub fn push_box(
     out.extend_from_slice(b"<rect class=\"")?;
     out.extend_from_slice(classes)?;
     out.push(b'"')?;
-    push_attribute(out, b"x", corner.x)?;
-    push_attribute(out, b"y", corner.y)?;
+    push_place(out, corner)?;
     push_attribute(out, b"width", width)?;
     push_attribute(out, b"height", height)?;
     out.extend_from_slice(b"/>\n")

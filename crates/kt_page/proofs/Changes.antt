@@ -1,8 +1,8 @@
 -- What two lists of lines begin with and end with, and the change between them.
--- Cited by `splice::back_len`, `splice::front_len`, `splice::splice`.
-use Rattle.std.proofs.Common.{◌≡◌, ℕ, zero, suc, ◌+◌, ◌-◌, ◌<◌, ◌≤◌, List, [], ◌∷◌, ◌++◌, length, get_or, map, take, drop, refl, sym, ap, ◌∙◌, arith}
+-- Cited by `splice::back_len`, `splice::front_len`, `splice::splice_of`.
+use Rattle.std.proofs.Common.{◌≡◌, ℕ, zero, suc, ◌+◌, ◌-◌, ◌<◌, ◌≤◌, List, [], ◌∷◌, ◌++◌, length, get_or, map, take, drop, refl, sym, ap, subst, ◌∙◌, arith}
 use Rattle.std.proofs.Common.{append_assoc, drop-cons, take-append-drop}
-use Rattle.std.specs.Vec.{Vec}
+use Rattle.std.specs.Global.{Vec}
 use Rattle.std.proofs.lemmas.List.{drop_all, take_all, take_more}
 use Rattle.kt_page.specs.Cells.{Lines}
 use Rattle.kt_page.specs.Splice.{put, text_of}
@@ -60,15 +60,15 @@ text-drop xs zero = refl
 text-drop [] (suc n) = refl
 text-drop (x ∷ xs) (suc n) = text-drop xs n
 
+drop-nothing : {A : Type 0} (k l : ℕ) → drop {A = A} k [] ≡ drop l []
+drop-nothing zero zero = refl
+drop-nothing zero (suc l) = refl
+drop-nothing (suc k) zero = refl
+drop-nothing (suc k) (suc l) = refl
+
 drop-drop : {A : Type 0} (xs : List A) (m n : ℕ) → drop n (drop m xs) ≡ drop (m + n) xs
 drop-drop xs zero n = ap (λ (k : ℕ). drop k xs) (omega arith)
-drop-drop [] (suc m) n = nothing n (suc m + n)
-  where
-    nothing : {A : Type 0} (k l : ℕ) → drop k ([] {A = A}) ≡ drop l []
-    nothing zero zero = refl
-    nothing zero (suc l) = refl
-    nothing (suc k) zero = refl
-    nothing (suc k) (suc l) = refl
+drop-drop [] (suc m) n = drop-nothing n (suc m + n)
 drop-drop (x ∷ xs) (suc m) n =
     let more : suc m + n ≡ suc (m + n) = omega arith in
     drop-drop xs m n ∙ ap (λ (k : ℕ). drop k (x ∷ xs)) (sym more)
@@ -90,6 +90,19 @@ put_is old new front back begins ends =
     sym (take-append-drop front (text_of new))
     ∙ ap (λ (ls : Lines). ls ++ drop front (text_of new)) (sym (text-take new front) ∙ sym begins ∙ text-take old front)
     ∙ ap (λ (ls : Lines). take front (text_of old) ++ ls) (sym (text-drop new front) ∙ middle)
+    ∙ sym (append_assoc (take front (text_of old)) (text_of (take k mid)) tail)
+
+-- the same of what is left of both behind what they begin with
+pub put_of : (old new rest left come : List (Vec ℕ)) (front back : ℕ) → rest ≡ drop front old → left ≡ drop front new → come ≡ take (length left - back) left
+    → text_of (take front old) ≡ text_of (take front new) → text_of (drop (length rest - back) rest) ≡ text_of (drop (length left - back) left)
+    → text_of new ≡ put front (length rest - back) (text_of come) (text_of old)
+put_of old new rest left come front back rest_is left_is come_is begins ends =
+    let here = subst (λ (l : List (Vec ℕ)). text_of (drop (length rest - back) rest) ≡ text_of (drop (length l - back) l)) left_is ends in
+    let there = subst (λ (r : List (Vec ℕ)). text_of (drop (length r - back) r) ≡ text_of (drop (length (drop front new) - back) (drop front new))) rest_is here in
+    put_is old new front back begins there
+    ∙ ap (λ (r : List (Vec ℕ)). put front (length r - back) (text_of (take (length (drop front new) - back) (drop front new))) (text_of old)) (sym rest_is)
+    ∙ ap (λ (l : List (Vec ℕ)). put front (length rest - back) (text_of (take (length l - back) l)) (text_of old)) (sym left_is)
+    ∙ ap (λ (c : List (Vec ℕ)). put front (length rest - back) (text_of c) (text_of old)) (sym come_is)
 
 -- all lines are alike
 pub none_changed : (old new : List (Vec ℕ)) (front : ℕ) → front ≡ length old → front ≡ length new → text_of (take front old) ≡ text_of (take front new)

@@ -1,7 +1,7 @@
 -- A change of lines.
 -- Cited by cells.rt, node_cells.rt, splice.rt, watch.rt.
 use Rattle.std.specs.Prelude.{ℕ, ◌+◌, List, ◌++◌, map, take, drop}
-use Rattle.std.specs.Vec.{Vec}
+use Rattle.std.specs.Global.{Vec}
 
 -- at this place so many lines are taken out, and these are put there
 abbrev pub put : {A : Type 0} → ℕ → ℕ → List A → List A → List A

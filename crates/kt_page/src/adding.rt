@@ -8,7 +8,7 @@ ghost use Rattle.kt_page.specs.Splice.{cells_text, text_of};
 use std::alloc::{AllocError, Global};
 
 /// Puts the cell behind the others.
-#[tactic(auto, using(crate::proofs::Adding::cell_more))]
+#[tactic(auto, using(crate::proofs::Added::cell_more))]
 pub(crate) fn add_cell(
     cells: &mut Vec<Vec<Vec<u8>>>,
     lines: Vec<Vec<u8>>,
@@ -20,7 +20,7 @@ pub(crate) fn add_cell(
 }
 
 /// Puts the line behind the others.
-#[tactic(auto, using(crate::proofs::Adding::line_more))]
+#[tactic(auto, using(crate::proofs::Added::line_more))]
 pub(crate) fn add_line(lines: &mut Vec<Vec<u8>>, line: Vec<u8>) -> Result<(), AllocError>
     ensures { OnOk result (text_of lines.new.items ≡ text_of lines.old.items ++ line.items ∷ []) }
 {

@@ -17,7 +17,7 @@ pub(crate) struct Splice<'a> {
 
 /// What makes the new lines of the old ones; `None` where they are equal. What both begin with stays, and of the rest
 /// what both end with.
-pub(crate) fn splice<'a>(old: &[Vec<u8>], new: &'a [Vec<u8>]) -> Option<Splice<'a>>
+pub(crate) fn splice_of<'a>(old: &[Vec<u8>], new: &'a [Vec<u8>]) -> Option<Splice<'a>>
     ensures put { IfSome result (λ s. text_of (new.now) ≡ put s.at s.gone (text_of (s.come.now)) (text_of (old.now))) }
     ensures none { result ≡ None → text_of old.now ≡ text_of new.now }
 {

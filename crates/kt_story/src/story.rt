@@ -61,7 +61,8 @@ impl Story {
         let entries = trace_on(alloc, &mut world, steps, &[])?;
         let mut rows = Vec::new(alloc);
         let refused = split(&mut rows, entries)?;
-        Story::ended(alloc, world, rows, refused)
+        let story = Story::ended(alloc, world, rows, refused)?;
+        Ok(story)
     }
 
     /// The story that ends in this world, to which the steps of these rows led, and the step that was refused there.

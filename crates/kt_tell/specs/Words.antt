@@ -108,7 +108,7 @@ control_verb (messages.App app) = (codes " hears ", codes "")
 control_verb (messages.CheckAsk ask) = (codes " is asked by ", codes " for a checkpoint")
 control_verb (messages.RollAsk ask) = (codes " is asked by ", codes " to roll back")
 control_verb (messages.Vote vote) = voting_verb vote.yes
-control_verb (messages.Verdict instance yes) = verdict_verb yes
+control_verb (messages.Verdict instance agreed) = verdict_verb agreed
 
 -- the number of a check or a rollback
 abbrev pub instance_text : ℕ → List ℕ
@@ -130,8 +130,8 @@ arrival_of row from (messages.App app) = around (arrival_verb row.keeps) (node_t
 arrival_of row from (messages.CheckAsk ask) = control_text row.was from (messages.CheckAsk ask) ask.instance
 arrival_of row from (messages.RollAsk ask) = control_text row.was from (messages.RollAsk ask) ask.instance
 arrival_of row from (messages.Vote vote) = control_text row.was from (messages.Vote vote) vote.instance
-arrival_of row from (messages.Verdict instance yes) =
-    control_text row.was from (messages.Verdict instance yes) instance
+arrival_of row from (messages.Verdict instance agreed) =
+    control_text row.was from (messages.Verdict instance agreed) instance
 
 abbrev pub arrival_text : TracedStep → NodeId × Message → List ℕ
 arrival_text row h = arrival_of row h.0 h.1
@@ -193,8 +193,8 @@ back_by (Some (notes.Cut p keep)) = codes ", goes back to its checkpoint"
 
 -- a node that gives up what it did goes back to its checkpoint; of one that fails the step has said it
 abbrev pub back_text : Step → Option Note → List ℕ
-back_text (Fail p) note = []
-back_text step note = back_by note
+back_text (Fail p) event = []
+back_text step event = back_by event
 
 abbrev pub from_down : Mode → List ℕ
 from_down modes.Up = codes ", is up"
@@ -231,7 +231,7 @@ sent_to_text name (messages.App app) = []
 sent_to_text name (messages.CheckAsk ask) = around (codes ", asks ", codes " for a checkpoint") name
 sent_to_text name (messages.RollAsk ask) = around (codes ", asks ", codes " to roll back") name
 sent_to_text name (messages.Vote vote) = around (votes_verb vote.yes) name
-sent_to_text name (messages.Verdict instance yes) = around (codes ", tells ", []) name
+sent_to_text name (messages.Verdict instance agreed) = around (codes ", tells ", []) name
 
 abbrev pub sent_text : NodeId × Message → List ℕ
 sent_text x = sent_to_text (node_text x.0) x.1

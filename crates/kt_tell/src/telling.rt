@@ -28,7 +28,7 @@ pub enum Form {
 
 /// The bytes of a trace, and how the steps ended.
 #[derive(Debug, Drop)]
-struct Told {
+struct Telling {
     text: Vec<u8>,
     end: Result<(), ReplayFault>,
 }
@@ -66,7 +66,7 @@ fn told<O: Observer>(
     form: Form,
     choice: Choice,
     observer: &mut O,
-) -> Result<Told, ReplayFault>
+) -> Result<Telling, ReplayFault>
     ensures told { IfOk result (λ told. IsTold form choice text.now told.text.items told.end) }
     ensures fault { IfErr result (IsUntold text.now) }
 {
@@ -95,7 +95,7 @@ fn tell<O: Observer>(
     form: Form,
     choice: Choice,
     observer: &mut O,
-) -> Result<Told, AllocError>
+) -> Result<Telling, AllocError>
     ensures text { IfOk result (λ told. told.text.items ≡ told_text form choice text.now scene steps.now) }
     ensures end { IfOk result (λ told. told.end ≡ end_of text.now scene steps.now) }
 {
@@ -108,7 +108,7 @@ fn tell<O: Observer>(
         Err(fault) => observer.stopped(alloc, text, &world, steps, fault),
     }
     let text = form_text(alloc, form, &entries, choice)?;
-    Ok(Told { text, end })
+    Ok(Telling { text, end })
 }
 
 /// The entries that are chosen, in this form.
