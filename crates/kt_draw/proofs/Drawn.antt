@@ -1,7 +1,10 @@
 -- Rows that are drawn one below the other.
 -- Cited by no other file of crates/.
-use Rattle.std.proofs.Common.{◌≡◌, ℕ, ◌+◌, ◌<◌, ◌≤◌, List, [], ◌∷◌, ◌++◌, length, get_or, take, sym, ap, ◌∙◌, subst, append_assoc, append-nil}
-use Rattle.std.proofs.lemmas.List.{take_all, take_more}
+use Rattle.std.proofs.Common.{◌≡◌, ℕ, ◌+◌, ◌<◌, ◌≤◌, Bool, true, false, List, [], ◌∷◌, ◌++◌, length, get_or, take, drop, refl, sym, ap, ◌∙◌, subst, arith}
+use Rattle.std.proofs.Common.{append_assoc, append-nil}
+use Rattle.std.specs.Prelude.{min, nat_le}
+use Rattle.std.proofs.lemmas.Bool.Decides.{nat_tests}
+use Rattle.std.proofs.lemmas.List.{drop_all, take_all, take_more}
 use Rattle.kt_history.specs.declared.note.Note.{Note}
 use Rattle.kt_trace.specs.declared.traced.TracedStep.{TracedStep}
 use Rattle.kt_draw.specs.declared.sheet.Sheet.{Sheet}
@@ -44,3 +47,19 @@ has_rows sheet h rows front drawn behind whole inside is = record {
   are = inside.1;
   is = is ∙ ap (λ (t : List ℕ). t ++ behind) inside.2 ∙ append_assoc front inside.0 behind;
 }
+
+-- what is left of the rows behind those before the first, of which there may be fewer
+left-by : (b : Bool) (rows left : List TracedStep) (before n : ℕ) → nat_le before (length rows) ≡ b → left ≡ drop n rows → n ≡ min before (length rows)
+    → left ≡ drop before rows
+left-by true rows left before n test are is =
+    let few : before ≤ length rows = grind (arith, nat_tests) in
+    let same : n ≡ before = omega (arith, few, is) in
+    are ∙ ap (λ (k : ℕ). drop k rows) same
+left-by false rows left before n test are is =
+    let many : length rows < before = grind (arith, nat_tests) in
+    let all : length rows ≤ n = omega (arith, many, is) in
+    let past : length rows ≤ before = omega (arith, many) in
+    are ∙ drop_all n rows all ∙ sym (drop_all before rows past)
+
+pub rows_left : (rows left : List TracedStep) (before n : ℕ) → left ≡ drop n rows → n ≡ min before (length rows) → left ≡ drop before rows
+rows_left rows left before n are is = left-by (nat_le before (length rows)) rows left before n refl are is

@@ -60,7 +60,14 @@ pub fn write_drawing<R: Read, W: Write, O: Observer>(
         Ok(text) => text,
         Err(fault) => return Err(DrawFault::Replay(fault)),
     };
-    let drawn = drawn(alloc, &text, drawing, observer)?;
+    let drawn = drawing_of(alloc, &text, drawing, observer)?;
+    write_drawn(writer, &drawn)
+}
+
+/// Writes the drawing, and answers how the steps ended.
+fn write_drawn<W: Write>(writer: &mut Sink<W>, drawn: &Drawn) -> Result<(), DrawFault>
+    ensures { IfErr result (λ fault. ¬ IsSilent fault) }
+{
     match write_text(writer, &drawn.text) {
         Ok(()) => ending(&drawn.story),
         Err(fault) => Err(DrawFault::Replay(fault)),
@@ -68,7 +75,7 @@ pub fn write_drawing<R: Read, W: Write, O: Observer>(
 }
 
 /// The drawing of the scenario that the text spells.
-fn drawn<O: Observer>(
+fn drawing_of<O: Observer>(
     alloc: Global,
     text: &[u8],
     drawing: Drawing,
@@ -131,7 +138,9 @@ fn tell<O: Observer>(alloc: Global, text: &[u8], steps: &[Step], story: &Story, 
 }
 
 /// How the steps ended: by the one that was refused, if one was.
-fn ending(story: &Story) -> Result<(), DrawFault> {
+fn ending(story: &Story) -> Result<(), DrawFault>
+    ensures { IfErr result (λ fault. ¬ IsSilent fault) }
+{
     match story.refused() {
         Some(refused) => Err(DrawFault::Replay(ReplayFault::Step {
             at: refused.number as usize,

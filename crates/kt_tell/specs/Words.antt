@@ -191,10 +191,13 @@ back_by None = []
 back_by (Some (notes.Act a)) = []
 back_by (Some (notes.Cut p keep)) = codes ", goes back to its checkpoint"
 
+abbrev pub is_failure : Step → Bool
+is_failure (Fail p) = true
+is_failure step = false
+
 -- a node that gives up what it did goes back to its checkpoint; of one that fails the step has said it
 abbrev pub back_text : Step → Option Note → List ℕ
-back_text (Fail p) event = []
-back_text step event = back_by event
+back_text step event = if is_failure step then [] else back_by event
 
 abbrev pub from_down : Mode → List ℕ
 from_down modes.Up = codes ", is up"
@@ -236,8 +239,11 @@ sent_to_text name (messages.Verdict instance agreed) = around (codes ", tells ",
 abbrev pub sent_text : NodeId × Message → List ℕ
 sent_text x = sent_to_text (node_text x.0) x.1
 
+abbrev pub many_text : ℕ → List ℕ
+many_text n = codes ", " ++ decimal n ++ codes " services undone"
+
 abbrev pub services_text : ℕ → List ℕ
-services_text n = if n == 1 then codes ", 1 service undone" else codes ", " ++ decimal n ++ codes " services undone"
+services_text n = if n == 1 then codes ", 1 service undone" else many_text n
 
 -- services that a cut undid, or one that was made of what was undone before
 abbrev pub undone_by : Option Note → ℕ → List ℕ
@@ -272,11 +278,15 @@ refusal_name refusals.StepLimit = codes "StepLimit"
 refusal_name (refusals.Store refusal) = codes "Store"
 refusal_name refusals.OutOfMemory = codes "OutOfMemory"
 
+-- the number and the name of the refusal
+abbrev pub cause_text : StepError → List ℕ
+cause_text cause = decimal (refusal_number cause) ++ 32 ∷ refusal_name cause
+
 -- the step's number, the step, and why it was refused
 abbrev pub refused_line : Refused → List ℕ
 refused_line refused =
-    decimal refused.number ++ 32 ∷ step_text refused.step ++ codes " is refused: "
-    ++ decimal (refusal_number refused.cause) ++ 32 ∷ refusal_name refused.cause ++ line_end
+    decimal refused.number ++ 32 ∷ step_text refused.step ++ codes " is refused: " ++ cause_text refused.cause
+    ++ line_end
 
 abbrev pub entry_line : Traced → List ℕ
 entry_line (entries.Made row) = made_line row

@@ -38,7 +38,6 @@ use std::alloc::{AllocError, Global};
 /// - `undone`, how many more services there are behind it that do not survive.
 ///
 /// A step that was refused has `number`, `line`, `step` and `refused`, the name of the refusal.
-#[tactic(auto, using(crate::proofs::Pieces::chosen_all))]
 pub fn json_of(alloc: Global, entries: &[Traced], choice: Choice) -> Result<Vec<u8>, AllocError>
     ensures text { IfOk result (λ text. text.items ≡ trace_json (told choice entries.now)) }
 {

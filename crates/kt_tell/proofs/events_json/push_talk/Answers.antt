@@ -7,15 +7,15 @@ use Rattle.kt_tell.proofs.Chains.{last_piece}
 use Rattle.kt_tell.proofs.Pieces.{then_more}
 use Rattle.kt_tell.proofs.events_json.push_talk.Goals as goal
 
-pub returns-in-Request : goal.returns-in-Request
-returns-in-Request c =
+pub returns-in_ok-push_member-in-Request-2 : goal.returns-in_ok-push_member-in-Request-2
+returns-in_ok-push_member-in-Request-2 c =
     let r = c.in-Request.request.now in
     rw c.in-Request.is (then_more c.args.out.now (begin_object ∷ key (codes "word") ∷ string (codes "request") ∷ []) _ c.begin_worded.new.out c.push_member-2.new.out c.in_ok-begin_worded.ensures
     (then_more c.begin_worded.new.out (key (codes "request") ∷ json_tokens (count r.number)) _ c.push_member.new.out c.push_member-2.new.out c.in_ok-push_member.ensures
     (last_piece c.push_member.new.out c.push_member-2.new.out (key (codes "operation") ∷ json_tokens (op_json r.op)) c.in_ok-push_member-2.ensures)))
 
-pub returns-in-Reply : goal.returns-in-Reply
-returns-in-Reply c =
+pub returns-in_ok-push_member-in-Reply-3 : goal.returns-in_ok-push_member-in-Reply-3
+returns-in_ok-push_member-in-Reply-3 c =
     let r = c.in-Reply.request.now in
     rw c.in-Reply.is (then_more c.args.out.now (begin_object ∷ key (codes "word") ∷ string (codes "reply") ∷ []) _ c.begin_worded.new.out c.push_member-3.new.out c.in_ok-begin_worded.ensures
     (then_more c.begin_worded.new.out (key (codes "request") ∷ json_tokens (count r.number)) _ c.push_member.new.out c.push_member-3.new.out c.in_ok-push_member.ensures
