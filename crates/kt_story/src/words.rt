@@ -2,8 +2,8 @@
 //! Cited by other crates.
 
 ghost use Rattle.std.specs.Prelude.{◌≡◌, ◌++◌, ◌∷◌, [], ℕ, List, length, OnOk};
-ghost use Rattle.kt_story.specs.Said.{count_text, got_text, reason_text, saved_text, service_text, shortened};
-ghost use Rattle.kt_story.specs.Said.{told_text};
+ghost use Rattle.kt_story.specs.Said.{count_text, got_text, how_text, reason_text, saved_text, service_text};
+ghost use Rattle.kt_story.specs.Said.{shortened, told_text};
 
 use crate::story::{Blame, Story};
 use kt_core::Step;
@@ -147,14 +147,21 @@ pub fn push_reason(out: &mut Vec<u8>, blame: Blame) -> Result<(), AllocError>
 {
     out.extend_from_slice(b"lost when ")?;
     blame.node.write_to(out)?;
-    if blame.failed {
-        out.extend_from_slice(b" failed (step ")?;
-    } else {
-        out.extend_from_slice(b" rolled back (step ")?;
-    }
+    out.extend_from_slice(how_text(blame.failed))?;
     push_number(out, blame.step)?;
     out.push(b')')?;
     Ok(())
+}
+
+/// How the node lost it.
+fn how_text(failed: bool) -> &'static [u8]
+    ensures { result.now ≡ how_text failed }
+{
+    if failed {
+        b" failed (step "
+    } else {
+        b" rolled back (step "
+    }
 }
 
 /// How many of something there are, whose word is that for one.

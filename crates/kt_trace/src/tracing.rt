@@ -102,7 +102,10 @@ pub fn trace_step(
 {
     let before = Glimpse::of(alloc, world, step)?;
     match make(alloc, world, step) {
-        Ok(()) => Ok(Traced::Made(before.row(alloc, world, number, line, step)?)),
+        Ok(()) => {
+            let row = before.row(alloc, world, number, line, step)?;
+            Ok(Traced::Made(row))
+        }
         Err(cause) => {
             if is_want(cause) {
                 return Err(AllocError);
