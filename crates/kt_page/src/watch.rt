@@ -75,7 +75,8 @@ fn make_one(
     ensures goes { IfOk result (λ refused. (later : List Step)
         → behind world.old.state (step ∷ later) ≡ going refused world.new.state later) }
 {
-    match trace_step(alloc, world, rows.len() as u64 + 1, 0, step)? {
+    let entry = trace_step(alloc, world, rows.len() as u64 + 1, 0, step)?;
+    match entry {
         Traced::Made(row) => {
             rows.push(row)?;
             Ok(None)
@@ -97,8 +98,9 @@ fn make(
         → behind world.old.state (steps.now ++ later) ≡ going refused world.new.state later) }
 {
     for step in steps {
-        if let Some(refused) = make_one(alloc, world, rows, *step)? {
-            return Ok(Some(refused));
+        match make_one(alloc, world, rows, *step)? {
+            Some(refused) => return Ok(Some(refused)),
+            None => {}
         }
     }
     Ok(None)
@@ -119,10 +121,10 @@ fn make_shown(
     ensures state { OnOk result (world.new.state ≡ behind world.old.state steps.now) }
 {
     for step in steps {
-        if let Some(refused) = make_one(alloc, world, rows, *step)? {
-            return Ok(Some(refused));
+        match make_one(alloc, world, rows, *step)? {
+            Some(refused) => return Ok(Some(refused)),
+            None => *cells = shown(alloc, world, cells, changes)?,
         }
-        *cells = shown(alloc, world, cells, changes)?;
     }
     Ok(None)
 }
