@@ -8,11 +8,11 @@ use Rattle.std.proofs.lemmas.List.{drop_all, take_all, take_more}
 use Rattle.kt_history.specs.declared.note.Note.{Note}
 use Rattle.kt_trace.specs.declared.traced.TracedStep.{TracedStep}
 use Rattle.kt_draw.specs.declared.sheet.Sheet.{Sheet}
-use Rattle.kt_draw.specs.Rows.{AreDrawn, HasRows, IsDrawnBehind, IsRowBehind, row_begin}
+use Rattle.kt_draw.specs.Rows.{AreDrawn, HasRows, IsDrawnBehind, IsRowBehind, more as drawn-more, none as drawn-none, row_begin}
 
 -- no row is drawn
 pub drawn_none : (begin : TracedStep → List ℕ) (text : List ℕ) → IsDrawnBehind begin [] text text
-drawn_none begin text = ([], AreDrawn.none, sym (append-nil text))
+drawn_none begin text = ([], drawn-none, sym (append-nil text))
 
 -- one row more is
 pub drawn_more : (begin : TracedStep → List ℕ) (old so_far new : List ℕ) (rows : List TracedStep) (i : ℕ) (row : TracedStep)
@@ -25,7 +25,7 @@ drawn_more begin old so_far new rows i row within at before more =
     ap (λ (x : TracedStep). take i rows ++ x ∷ []) at ∙ sym (take_more rows i row within) in
     let P : List TracedStep → Type 0 = λ rs. AreDrawn begin rs (text ++ (begin row ++ words)) in (
       text ++ (begin row ++ words),
-      subst P front (AreDrawn.more (take i rows) row text words before.1),
+      subst P front (drawn-more (take i rows) row text words before.1),
       more.1 ∙ ap (λ (t : List ℕ). t ++ (begin row ++ words)) before.2 ∙ append_assoc old text (begin row ++ words),
     )
 

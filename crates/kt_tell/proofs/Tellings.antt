@@ -9,13 +9,16 @@ use Rattle.kt_text.specs.Scenario.{IsScenario}
 use Rattle.kt_text.specs.Work.{Work, Faults, Steps, kind_of, steps_of}
 use Rattle.kt_model.specs.Reached.{opening}
 use Rattle.kt_model.specs.State.{State}
+use Rattle.kt_scene.specs.Outside.{Reader, Writer}
+use Rattle.kt_scene.specs.Stream.{IsAllRead}
 use Rattle.kt_scene.specs.declared.fault.ReplayFault.{ReplayFault}
 use Rattle.kt_tell.specs.declared.choice.Choice.{Choice}
 use Rattle.kt_tell.specs.declared.telling.Form.{Form}
 use Rattle.kt_trace.specs.declared.traced.Traced.{Traced}
 use Rattle.kt_trace.specs.Rows.{trace_from}
 use Rattle.kt_tell.specs.StepLines.{step_lines}
-use Rattle.kt_tell.specs.Told.{IsTold, end_of, told_text, trace_of}
+use Rattle.kt_tell.specs.Told.{EndsTrace, IsTold, end_of, told_text, trace_of, traced, untold, unwritten}
+use Rattle.kt_tell.specs.auxiliary.Endings.{EndsTelling, EndsWriting, all_written, front_written, is_cut_off, is_untold, is_written}
 
 -- a text that spells a scenario with these steps
 steps-spelled : (text : List ℕ) (scene : SceneModel) (work : Work) → kind_of work ≡ kinds.Steps → IsScenario text (record { scene = scene; work = work })
@@ -43,3 +46,19 @@ pub trace_is : (text lines : List ℕ) (scene : SceneModel) (s : State) (steps :
     → s ≡ opening scene → all ≡ trace_from lines 1 s steps → all ≡ trace_of text scene steps
 trace_is text lines scene s steps all on begins are =
     are ∙ ap (λ (l : List ℕ). trace_from l 1 s steps) on ∙ ap (λ (t : State). trace_from (step_lines 1 (lines_of text).0) 1 t steps) begins
+
+-- ---- how the telling ends
+
+-- the text is told, and that is written
+pub ends_telling : (form : Form) (choice : Choice) (text told : List ℕ) (end : Result (Unit {0}) ReplayFault) (old new : Writer)
+    {answer : Result (Unit {0}) ReplayFault} → IsTold form choice text told end → EndsWriting told end old new answer
+    → EndsTelling form choice text old new answer
+ends_telling form choice text told end old new is (all_written all) = is_written told is all
+ends_telling form choice text told end old new is (front_written front) = is_cut_off told is front
+
+-- the text was read, and is told so
+pub ends_trace : (form : Form) (choice : Choice) (before after : Reader) (text : List ℕ) (old new : Writer) {answer : Result (Unit {0}) ReplayFault}
+    → IsAllRead before after text → EndsTelling form choice text old new answer → EndsTrace form choice before after old new answer
+ends_trace form choice before after text old new read (is_written told is all) = traced text told read is all
+ends_trace form choice before after text old new read (is_cut_off told is front) = unwritten text told read is front
+ends_trace form choice before after text old new read (is_untold fault is same) = untold text fault read is same

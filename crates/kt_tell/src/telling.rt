@@ -3,6 +3,7 @@
 
 ghost use Rattle.std.specs.Prelude.{◌≡◌, IfErr, IfOk};
 ghost use Rattle.kt_tell.specs.Told.{EndsTrace, IsTold, IsUntold, end_by, end_of, form_text, told_text};
+ghost use Rattle.kt_tell.specs.auxiliary.Endings.{EndsTelling, EndsWriting};
 
 use crate::choice::Choice;
 use crate::lines::step_lines;
@@ -48,13 +49,34 @@ pub fn write_trace<R: Read, W: Write, O: Observer>(
     ensures ends { EndsTrace form choice reader.old reader.new writer.old writer.new result }
 {
     match read_text(alloc, reader) {
-        Ok(text) => match told(alloc, &text, form, choice, observer) {
-            Ok(told) => match write_text(writer, &told.text) {
-                Ok(()) => told.end,
-                Err(fault) => Err(fault),
-            },
-            Err(fault) => Err(fault),
-        },
+        Ok(text) => write_told(alloc, &text, writer, form, choice, observer),
+        Err(fault) => Err(fault),
+    }
+}
+
+/// Writes the trace of the scenario that the text spells.
+fn write_told<W: Write, O: Observer>(
+    alloc: Global,
+    text: &[u8],
+    writer: &mut Sink<W>,
+    form: Form,
+    choice: Choice,
+    observer: &mut O,
+) -> Result<(), ReplayFault>
+    ensures { EndsTelling form choice text.now writer.old writer.new result }
+{
+    match told(alloc, text, form, choice, observer) {
+        Ok(telling) => write_telling(writer, telling),
+        Err(fault) => Err(fault),
+    }
+}
+
+/// Writes what is told, and answers how the steps ended.
+fn write_telling<W: Write>(writer: &mut Sink<W>, telling: Telling) -> Result<(), ReplayFault>
+    ensures { EndsWriting telling.text.items telling.end writer.old writer.new result }
+{
+    match write_text(writer, &telling.text) {
+        Ok(()) => telling.end,
         Err(fault) => Err(fault),
     }
 }
