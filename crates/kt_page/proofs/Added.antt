@@ -51,3 +51,10 @@ taken_more line xs i so_far new found before more at =
 -- all lines
 pub taken_all : {X : Type 0} (line : X → List ℕ) (xs : List X) (i : ℕ) (lines : Lines) → length xs ≤ i → lines ≡ map line (take i xs) → lines ≡ map line xs
 taken_all line xs i lines end are = are ∙ ap (map line) (take_all i xs end)
+
+-- the lines of what a node takes part in
+pub part_is : (line : List ℕ) (awaited refused voted l0 l1 l2 l3 l4 : Lines) → l0 ≡ [] → l1 ≡ l0 ++ line ∷ [] → l2 ≡ l1 ++ awaited → l3 ≡ l2 ++ refused
+    → l4 ≡ l3 ++ voted → l4 ≡ line ∷ awaited ++ refused ++ voted
+part_is line awaited refused voted l0 l1 l2 l3 l4 e0 e1 e2 e3 e4 =
+    e4 ∙ ap (λ (ls : Lines). ls ++ voted) (e3 ∙ ap (λ (ls : Lines). ls ++ refused) (e2 ∙ ap (λ (ls : Lines). ls ++ awaited)
+    (e1 ∙ ap (λ (ls : Lines). ls ++ line ∷ []) e0)))

@@ -99,7 +99,7 @@ next_in w script = next_request script w
 -- what is unanswered, and else what comes next
 abbrev pub request_line : Option (List Command) → WorkerModel → Option Op → List ℕ
 request_line script w (Some op) = codes "waits for " ++ numbered_text w.number op
-request_line script w None = next_line (option_and_then script (next_in w))
+request_line script w None = next_line (option_and_then (next_in w) script)
 
 abbrev pub request_lines : Option (List Command) → Option WorkerModel → Lines
 request_lines script None = []
@@ -161,8 +161,8 @@ saved_lines s p = let row = row_of s.content p in
 -- of a worker its request, of a shard its tuples and who waits
 abbrev pub own_cells : State → NodeId → List Lines
 own_cells s (Worker n) = let p = Worker n in
-    request_lines (script_in s.scene p) (option_and_then (node s p) worker_of) ∷ []
-own_cells s (Shard n) = let y = option_and_then (node s (Shard n)) shard_of in tuple_lines y ∷ waiting_lines y ∷ []
+    request_lines (script_in s.scene p) (option_and_then worker_of (node s p)) ∷ []
+own_cells s (Shard n) = let y = option_and_then shard_of (node s (Shard n)) in tuple_lines y ∷ waiting_lines y ∷ []
 
 -- those of a node
 abbrev pub node_cells : State → NodeId → List Lines

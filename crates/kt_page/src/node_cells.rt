@@ -13,7 +13,7 @@ ghost use Rattle.kt_store.specs.declared.rows.NodeRow.{NodeRow};
 ghost use Rattle.kt_scenario.specs.Scene.{script_in};
 ghost use Rattle.kt_vote.specs.Poll.{is_awaited};
 ghost use Rattle.kt_model.specs.ReadSet.{poll_at};
-ghost use Rattle.kt_model.specs.State.{node};
+ghost use Rattle.kt_model.specs.State.{node as node_in};
 ghost use Rattle.kt_state.specs.declared.node.Mode.TheVariants as modes;
 ghost use Rattle.kt_state.specs.Node.{shard_of, worker_of};
 ghost use Rattle.kt_trace.specs.Rows.{mode_at};
@@ -87,7 +87,7 @@ fn push_own_cells(
 
 /// The shard that the node is, in whatever mode it is but down.
 fn shard_at(world: &World<MemStore>, node: NodeId) -> Option<&Shard>
-    ensures { option_map (λ y. y.now.state) result ≡ option_and_then (node world.now.state node) shard_of }
+    ensures { option_map (λ y. y.now.state) result ≡ option_and_then shard_of (node_in world.now.state node) }
 {
     match world.node(node) {
         Some(found) => found.shard(),
@@ -97,7 +97,7 @@ fn shard_at(world: &World<MemStore>, node: NodeId) -> Option<&Shard>
 
 /// The worker that the node is, in whatever mode it is but down.
 fn worker_at(world: &World<MemStore>, node: NodeId) -> Option<&Worker>
-    ensures { option_copied result ≡ option_and_then (node world.now.state node) worker_of }
+    ensures { option_copied result ≡ option_and_then worker_of (node_in world.now.state node) }
 {
     match world.node(node) {
         Some(found) => found.worker(),
@@ -153,14 +153,27 @@ fn ballot_lines(
         text_of lines.items ≡ part_lines world.now.state.content (Some ballot.now)) }
 {
     let mut lines = Vec::new(alloc);
-    let mut line = Vec::new(alloc);
-    push_begun(&mut line, world, ballot.instance())?;
-    push_asked(&mut line, ballot.parent())?;
+    let line = ballot_line(alloc, world, ballot)?;
     add_line(&mut lines, line)?;
     add_awaited(alloc, &mut lines, ballot)?;
     add_text_if(alloc, &mut lines, ballot.refused(), b"a vote was no")?;
     add_text_if(alloc, &mut lines, ballot.has_voted(), b"has voted")?;
     Ok(lines)
+}
+
+/// Which check or rollback it is, and by whom the node was asked.
+fn ballot_line(
+    alloc: Global,
+    world: &World<MemStore>,
+    ballot: &Ballot,
+) -> Result<Vec<u8>, AllocError>
+    ensures { IfOk result (λ line. line.items
+        ≡ begun_text (instance_row world.now.state.content ballot.now.instance) ++ asked_text ballot.now.parent) }
+{
+    let mut line = Vec::new(alloc);
+    push_begun(&mut line, world, ballot.instance())?;
+    push_asked(&mut line, ballot.parent())?;
+    Ok(line)
 }
 
 /// By whom the node was asked.
@@ -216,14 +229,31 @@ fn add_awaited(alloc: Global, lines: &mut Vec<Vec<u8>>, ballot: &Ballot) -> Resu
         ≡ text_of lines.old.items ++ awaited_lines (filter (is_awaited ballot.now) all_nodes)) }
 {
     let awaited = awaited_of(alloc, ballot, &ALL_NODES)?;
-    if awaited.is_empty() {
-        return Ok(());
+    add_missing(alloc, lines, &awaited)?;
+    Ok(())
+}
+
+fn add_missing(
+    alloc: Global,
+    lines: &mut Vec<Vec<u8>>,
+    nodes: &[NodeId],
+) -> Result<(), AllocError>
+    ensures { OnOk result (text_of lines.new.items ≡ text_of lines.old.items ++ awaited_lines nodes.now) }
+{
+    match nodes.split_first() {
+        Some(_) => add_waits(alloc, lines, nodes),
+        None => Ok(()),
     }
+}
+
+fn add_waits(alloc: Global, lines: &mut Vec<Vec<u8>>, nodes: &[NodeId]) -> Result<(), AllocError>
+    ensures { OnOk result (text_of lines.new.items
+        ≡ text_of lines.old.items ++ (codes "waits for the votes of " ++ names_text nodes.now) ∷ []) }
+{
     let mut line = Vec::new(alloc);
     line.extend_from_slice(b"waits for the votes of ")?;
-    push_names(&mut line, &awaited)?;
-    add_line(lines, line)?;
-    Ok(())
+    push_names(&mut line, nodes)?;
+    add_line(lines, line)
 }
 
 /// Those of these nodes whose votes are missing.
@@ -268,7 +298,7 @@ fn request_lines(
     node: NodeId,
 ) -> Result<Vec<Vec<u8>>, AllocError>
     ensures { IfOk result (λ lines. text_of lines.items ≡ request_lines
-        (script_in world.now.state.scene node) (option_and_then (node world.now.state node) worker_of)) }
+        (script_in world.now.state.scene node) (option_and_then worker_of (node_in world.now.state node))) }
 {
     let mut lines = Vec::new(alloc);
     if let Some(worker) = worker_at(world, node) {
@@ -309,7 +339,7 @@ fn next_of(
     script: Option<&Script>,
     worker: &Worker,
 ) -> Result<Option<(u64, Op)>, AllocError>
-    ensures { IfOk result (λ next. next ≡ option_and_then (option_copied script.entry) (next_in worker.now)) }
+    ensures { IfOk result (λ next. next ≡ option_and_then (next_in worker.now) (option_copied script.entry)) }
 {
     match script {
         Some(script) => {
@@ -348,7 +378,7 @@ fn push_numbered(out: &mut Vec<u8>, number: u64, op: &Op) -> Result<(), AllocErr
 
 /// The shard's tuples in order of arrival, one a line.
 fn tuple_lines(alloc: Global, shard: Option<&Shard>) -> Result<Vec<Vec<u8>>, AllocError>
-    ensures { IfOk result (λ lines. text_of lines.items ≡ tuple_lines (option_map (λ y. y.now.state) shard)) }
+    ensures { IfOk result (λ lines. text_of lines.items ≡ tuple_lines (option_map (λ y. y.now.state) shard.entry)) }
 {
     match shard {
         Some(shard) => bag_lines(alloc, shard.bag()),
@@ -385,7 +415,7 @@ fn add_tuple(
 
 /// Who waits at the shard, and for what.
 fn waiting_lines(alloc: Global, shard: Option<&Shard>) -> Result<Vec<Vec<u8>>, AllocError>
-    ensures { IfOk result (λ lines. text_of lines.items ≡ waiting_lines (option_map (λ y. y.now.state) shard)) }
+    ensures { IfOk result (λ lines. text_of lines.items ≡ waiting_lines (option_map (λ y. y.now.state) shard.entry)) }
 {
     let mut lines = Vec::new(alloc);
     match shard {

@@ -44,7 +44,7 @@ pub(crate) fn watch(
     let mut changes = Vec::new(alloc);
     let hidden = first.saturating_sub(1).min(steps.len() as u64);
     let (before, later) = steps.split_at(hidden as usize);
-    let ended = make(alloc, &mut world, &mut rows, before)?;
+    let stopped = make(alloc, &mut world, &mut rows, before)?;
     let mut cells = shown(alloc, &world, &[], &mut changes)?;
     let refused = go_on(
         alloc,
@@ -53,10 +53,11 @@ pub(crate) fn watch(
         &mut cells,
         &mut changes,
         later,
-        ended,
+        stopped,
     )?;
+    let story = Story::ended(alloc, world, rows, refused)?;
     Ok(Watched {
-        story: Story::ended(alloc, world, rows, refused)?,
+        story,
         cells,
         changes,
     })

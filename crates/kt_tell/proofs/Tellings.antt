@@ -1,6 +1,6 @@
 -- The trace of what a text spells.
 -- Cited by no other file of crates/.
-use Rattle.std.proofs.Common.{◌≡◌, ℕ, List, Result, ap, ◌∙◌}
+use Rattle.std.proofs.Common.{◌≡◌, ℕ, List, Result, Err, sym, ap, subst, ◌∙◌}
 use Rattle.kt_scenario.specs.declared.step.Step.{Step}
 use Rattle.kt_scenario.specs.Scene.{SceneModel}
 use Rattle.kt_text.specs.declared.scenario.WorkKind.TheVariants as kinds
@@ -10,8 +10,9 @@ use Rattle.kt_text.specs.Work.{Work, Faults, Steps, kind_of, steps_of}
 use Rattle.kt_model.specs.Reached.{opening}
 use Rattle.kt_model.specs.State.{State}
 use Rattle.kt_scene.specs.Outside.{Reader, Writer}
-use Rattle.kt_scene.specs.Stream.{IsAllRead}
+use Rattle.kt_scene.specs.Stream.{IsAllRead, WritesAll, WritesFront}
 use Rattle.kt_scene.specs.declared.fault.ReplayFault.{ReplayFault}
+use Rattle.kt_scene.specs.declared.fault.ReplayFault.TheVariants as faults
 use Rattle.kt_tell.specs.declared.choice.Choice.{Choice}
 use Rattle.kt_tell.specs.declared.telling.Form.{Form}
 use Rattle.kt_trace.specs.declared.traced.Traced.{Traced}
@@ -49,6 +50,17 @@ trace_is text lines scene s steps all on begins are =
 
 -- ---- how the telling ends
 
+-- what is told is written
+pub writing_done : (told bytes : List ℕ) (end : Result (Unit {0}) ReplayFault) (old new : Writer) → bytes ≡ told → WritesAll old new bytes
+    → EndsWriting told end old new end
+writing_done told bytes end old new is all = all_written (subst (WritesAll old new) is all)
+
+-- or a front of it
+pub writing_failed : (told bytes : List ℕ) (end : Result (Unit {0}) ReplayFault) (old new : Writer) (fault : ReplayFault) → bytes ≡ told
+    → fault ≡ faults.Write → WritesFront old new bytes → EndsWriting told end old new (Err fault)
+writing_failed told bytes end old new fault is failed front =
+    subst (λ (f : ReplayFault). EndsWriting told end old new (Err f)) (sym failed) (front_written (subst (WritesFront old new) is front))
+
 -- the text is told, and that is written
 pub ends_telling : (form : Form) (choice : Choice) (text told : List ℕ) (end : Result (Unit {0}) ReplayFault) (old new : Writer)
     {answer : Result (Unit {0}) ReplayFault} → IsTold form choice text told end → EndsWriting told end old new answer
@@ -57,8 +69,14 @@ ends_telling form choice text told end old new is (all_written all) = is_written
 ends_telling form choice text told end old new is (front_written front) = is_cut_off told is front
 
 -- the text was read, and is told so
-pub ends_trace : (form : Form) (choice : Choice) (before after : Reader) (text : List ℕ) (old new : Writer) {answer : Result (Unit {0}) ReplayFault}
+ends_trace : (form : Form) (choice : Choice) (before after : Reader) (text : List ℕ) (old new : Writer) {answer : Result (Unit {0}) ReplayFault}
     → IsAllRead before after text → EndsTelling form choice text old new answer → EndsTrace form choice before after old new answer
 ends_trace form choice before after text old new read (is_written told is all) = traced text told read is all
 ends_trace form choice before after text old new read (is_cut_off told is front) = unwritten text told read is front
 ends_trace form choice before after text old new read (is_untold fault is same) = untold text fault read is same
+
+-- the same where the text is read by another name
+pub ends_trace_as : (form : Form) (choice : Choice) (before after : Reader) (text same : List ℕ) (old new : Writer) (answer : Result (Unit {0}) ReplayFault)
+    → same ≡ text → IsAllRead before after text → EndsTelling form choice same old new answer → EndsTrace form choice before after old new answer
+ends_trace_as form choice before after text same old new answer is read ends =
+    ends_trace form choice before after text old new read (subst (λ (t : List ℕ). EndsTelling form choice t old new answer) is ends)

@@ -14,4 +14,4 @@ loop-place-preserved c =
 pub returns : goal.returns
 returns c =
     taken_all message_line (link c.args.world.now.state c.args.from c.args.to) c.loop-place.place (text_of c.loop-place.lines.items)
-    (omega (arith, c.link_len.ensures)) c.loop-place.invariant
+    (omega (arith, c.link_len-place-end.ensures)) c.loop-place.invariant

@@ -13,4 +13,4 @@ loop-place-preserved c =
 pub returns : goal.returns
 returns c =
     taken_all tuple_text (c.args.bag.now.tuples) c.loop-place.place (text_of c.loop-place.lines.items)
-    (omega (arith, c.len.ensures)) c.loop-place.invariant
+    (omega (arith, c.len-place-end.ensures)) c.loop-place.invariant

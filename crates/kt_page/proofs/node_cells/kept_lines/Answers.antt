@@ -14,4 +14,4 @@ loop-place-preserved c =
 pub returns : goal.returns
 returns c =
     taken_all (λ x. kept_line x.0 x.1) (kept c.args.world.now.state c.args.node) c.loop-place.place (text_of c.loop-place.lines.items)
-    (omega (arith, c.kept_len.ensures)) c.loop-place.invariant
+    (omega (arith, c.kept_len-place-end.ensures)) c.loop-place.invariant
