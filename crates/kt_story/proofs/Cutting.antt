@@ -1,6 +1,6 @@
 -- A text that is cut down to so many characters.
 -- Cited by `words::shorten`.
-use Rattle.std.proofs.Common.{◌≡◌, ℕ, ◌+◌, ◌-◌, ◌<◌, ◌≤◌, Bool, true, false, cond, List, [], ◌∷◌, ◌++◌, length, take, refl, sym, ap, ◌∙◌, arith}
+use Rattle.std.proofs.Common.{◌≡◌, ℕ, suc, ◌+◌, ◌-◌, ◌<◌, ◌≤◌, Bool, true, false, cond, List, [], ◌∷◌, ◌++◌, length, take, refl, sym, ap, ◌∙◌, arith}
 use Rattle.std.proofs.Common.{append_assoc, length-append}
 use Rattle.std.specs.Prelude.{codes, if◌then◌else◌, nat_le}
 use Rattle.std.proofs.lemmas.Bool.Decides.{nat_tests}
@@ -10,7 +10,7 @@ use Rattle.kt_story.specs.Said.{shortened}
 take-behind : (front behind : List ℕ) (n : ℕ) → take (length front + n) (front ++ behind) ≡ front ++ take n behind
 take-behind [] behind n = ap (λ (k : ℕ). take k behind) (omega arith)
 take-behind (c ∷ front) behind n =
-    let more : length (c ∷ front) + n ≡ 1 + (length front + n) = omega arith in
+    let more : length (c ∷ front) + n ≡ suc (length front + n) = omega arith in
     ap (λ (k : ℕ). take k (c ∷ (front ++ behind))) more ∙ ap (λ (t : List ℕ). c ∷ t) (take-behind front behind n)
 
 fits : (behind : List ℕ) (most : ℕ) → length behind ≤ most → nat_le (length behind) most ≡ true
