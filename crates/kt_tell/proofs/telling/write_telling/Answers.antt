@@ -6,7 +6,7 @@ returns-in-Ok g c =
     writing_done c.args.telling.text.items c.deref.result.now c.args.telling.end c.args.writer.now c.write_text.new.writer c.deref.ensures.value
     c.in-Ok.ensures.whole
 
-pub returns-in-Err : goal.returns-in-Err
-returns-in-Err g c =
+pub returns : goal.returns
+returns g c =
     writing_failed c.args.telling.text.items c.deref.result.now c.args.telling.end c.args.writer.now c.write_text.new.writer c.in-Err.fault
     c.deref.ensures.value c.in-Err.ensures.only c.in-Err.ensures.front
