@@ -1,5 +1,6 @@
 -- Lines and cells that are put behind others.
--- Cited by adding.rt; loops of cells.rt and node_cells.rt.
+-- Cited by adding.rt, `cells::way_lines`, `node_cells::bag_lines`, `node_cells::ballot_lines`,
+--   `node_cells::kept_lines`.
 use Rattle.std.proofs.Common.{◌≡◌, ℕ, zero, suc, ◌+◌, ◌<◌, ◌≤◌, List, [], ◌∷◌, ◌++◌, length, get_or, map, take, refl, sym, ap, ◌∙◌, append_assoc, arith}
 use Rattle.std.specs.Prelude.{Option, None, Some, slice_get}
 use Rattle.std.specs.List.{flat_map}

@@ -1,5 +1,5 @@
 -- What two lists of lines begin with and end with, and the change between them.
--- Cited by `splice::back_len`, `splice::front_len`, `splice::splice_of`.
+-- Cited by `splice::splice_of`.
 use Rattle.std.proofs.Common.{◌≡◌, ℕ, zero, suc, ◌+◌, ◌-◌, ◌<◌, ◌≤◌, List, [], ◌∷◌, ◌++◌, length, get_or, map, take, drop, refl, sym, ap, subst, ◌∙◌, arith}
 use Rattle.std.proofs.Common.{append_assoc, drop-cons, take-append-drop}
 use Rattle.std.specs.Global.{Vec}

@@ -1,5 +1,5 @@
 -- Steps that are made one after the other, and the state behind them.
--- Cited by `watch::make`, `watch::make_one`, `watch::make_shown`, `watch::watch`.
+-- Cited by `watch::make_one`, `watch::make_shown`, `watch::make`, `watch::watch`.
 use Rattle.std.proofs.Common.{◌≡◌, ℕ, suc, ◌+◌, ◌<◌, ◌≤◌, List, [], ◌∷◌, ◌++◌, drop, take, length, get_or, refl, sym, ap, ◌∙◌, arith}
 use Rattle.std.proofs.Common.{append-nil, drop-cons, take-append-drop}
 use Rattle.std.specs.Prelude.{Option, None, Some, Result, Ok, Err}

@@ -1,5 +1,7 @@
 -- What the cells of a page show of a state: lines of text.
--- Cited by cells.rt, node_cells.rt, watch.rt.
+-- Cited by Added, Changes, adding.rt, cells.rt, node_cells.rt, specs/auxiliary/Found, watch.rt, `cells::cells_of`,
+--   `cells::push_all_ways`, `cells::push_nodes`, `cells::push_ways`, `node_cells::add_all_waiting`,
+--   `node_cells::ballot_lines`, `node_cells::push_others`, `watch::make_shown`, `watch::watch`.
 use Rattle.std.specs.Prelude.{ℕ, Bool, true, false, if◌then◌else◌, List, [], ◌∷◌, ◌++◌, codes, decimal, filter}
 use Rattle.std.specs.Prelude.{length, map, Option, None, Some, option_and_then}
 use Rattle.std.specs.List.{flat_map}

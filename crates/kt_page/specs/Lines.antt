@@ -1,5 +1,5 @@
 -- A message in a line of text. Code 26 stands for an arrow, which who writes the line puts there.
--- Cited by cells.rt, message.rt, specs/Cells.
+-- Cited by cells.rt, message.rt, node_cells.rt, specs/Cells, `cells::way_lines`, `node_cells::kept_lines`.
 use Rattle.std.specs.Prelude.{ℕ, Bool, true, false, List, [], ◌∷◌, ◌++◌, codes, decimal}
 use Rattle.kt_tuple.specs.declared.node.NodeId.{NodeId}
 use Rattle.kt_tuple.specs.Spelling.{node_text, op_text}

@@ -1,5 +1,5 @@
 -- Steps that are made one behind the other.
--- Cited by watch.rt.
+-- Cited by Onward, watch.rt, `watch::make_shown`, `watch::make`.
 use Rattle.std.specs.Prelude.{List, Option, None, Some}
 use Rattle.kt_scenario.specs.declared.step.Step.{Step}
 use Rattle.kt_model.specs.State.{State}

@@ -1,5 +1,5 @@
 //! What the cells of a node show.
-//! Cited by cells.rt, fate.rt.
+//! Cited by cells.rt.
 
 ghost use Rattle.std.specs.Prelude.{◌≡◌, ◌++◌, ◌∷◌, ◌==◌, [], IfOk, OnOk, Some, codes, decimal, filter, map};
 ghost use Rattle.std.specs.Prelude.{option_and_then, unwrap_or};

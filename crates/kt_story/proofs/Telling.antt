@@ -1,5 +1,5 @@
 -- The story of steps, of their entries.
--- Cited by `Story::of`.
+-- Cited by no other file of crates/.
 use Rattle.std.proofs.Common.{◌≡◌, List, [], ap, ◌∙◌}
 use Rattle.std.specs.Prelude.{Option, None}
 use Rattle.kt_scenario.specs.declared.step.Step.{Step}

@@ -1,10 +1,11 @@
 -- Texts that are put one behind the other.
--- Cited by Chains, rows_json.rt, words.rt, `events_json::begin_worded`, `events_json::push_act`,
---   `events_json::push_app`, `events_json::push_ask`, `events_json::push_label`, `events_json::push_of_node`,
---   `events_json::push_of_pair`, `events_json::push_of_service`, `events_json::push_talk`, `events_json::push_verdict`,
---   `events_json::push_vote`, `rows_json::push_events`, `rows_json::push_modes`, `rows_json::push_outcome`,
---   `rows_json::push_place`, `rows_json::push_refused`, `rows_json::push_row`, `rows_json::push_talk`,
---   `rows_json::push_with`.
+-- Cited by Chains, `events_json::begin_worded`, `events_json::push_act`, `events_json::push_app`,
+--   `events_json::push_ask`, `events_json::push_label`, `events_json::push_of_node`, `events_json::push_of_pair`,
+--   `events_json::push_of_service`, `events_json::push_reply`, `events_json::push_request`,
+--   `events_json::push_verdict`, `events_json::push_vote`, `rows_json::json_of`, `rows_json::push_events`,
+--   `rows_json::push_modes`, `rows_json::push_outcome`, `rows_json::push_place`, `rows_json::push_refused`,
+--   `rows_json::push_row`, `rows_json::push_talk`, `rows_json::push_with`, `tails::push_many`, `words::push_made` and 1
+--   more.
 use Rattle.std.proofs.Common.{◌≡◌, ℕ, Bool, true, false, cond, List, [], ◌∷◌, ◌++◌, ◌≤◌, length, take, refl, ap, ◌∙◌, append_assoc}
 use Rattle.std.specs.Prelude.{if◌then◌else◌}
 use Rattle.std.specs.List.{flat_map}

@@ -1,5 +1,5 @@
 -- The trace of what a text spells.
--- Cited by no other file of crates/.
+-- Cited by `telling::write_telling`, `telling::write_told`, `telling::write_trace`.
 use Rattle.std.proofs.Common.{◌≡◌, ℕ, List, Result, Err, sym, ap, subst, ◌∙◌}
 use Rattle.kt_scenario.specs.declared.step.Step.{Step}
 use Rattle.kt_scenario.specs.Scene.{SceneModel}

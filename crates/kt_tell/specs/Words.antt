@@ -1,6 +1,6 @@
 -- What a line of a trace says: one table of words over steps and events.
 -- Cited by heads.rt, names.rt, specs/Shape, specs/Told, tails.rt, words.rt, `rows_json::push_refused`,
---   `tails::push_sent`, `words::words_of`; other crates.
+--   `tails::push_sent`, `words::push_made`, `words::words_of`; other crates.
 use Rattle.std.specs.Prelude.{ℕ, ◌==◌, Bool, true, false, if◌then◌else◌, List, [], ◌∷◌, ◌++◌, codes, decimal}
 use Rattle.std.specs.Prelude.{Option, None, Some}
 use Rattle.std.specs.List.{flat_map}

@@ -1,5 +1,5 @@
 -- What a node sends: what is new on its links.
--- Cited by Stepped.
+-- Cited by Stepped, `ways::add_from`.
 use Rattle.std.proofs.Common.{◌≡◌, ℕ, zero, suc, ◌+◌, List, [], ◌∷◌, ◌++◌, map, drop, drop-cons, length, slice_get, None, Some}
 use Rattle.std.proofs.Common.{◌≤◌, sym, ap, ◌∙◌, arith, append_assoc, append-nil}
 use Rattle.std.proofs.lemmas.List.{drop_all}

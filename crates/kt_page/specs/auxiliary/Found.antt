@@ -1,5 +1,5 @@
 -- What is found, and the lines of it.
--- Cited by cells.rt, node_cells.rt.
+-- Cited by Added, cells.rt, node_cells.rt.
 use Rattle.std.specs.Prelude.{ℕ, List, [], ◌∷◌, Option, None, Some}
 use Rattle.kt_store.specs.declared.rows.NodeRow.{NodeRow}
 use Rattle.kt_store.specs.Content.{Content, verdict_on}

@@ -1,5 +1,5 @@
 -- How the telling of a text ends, once that is read.
--- Cited by Tellings, telling.rt.
+-- Cited by Tellings, telling.rt, `telling::write_told`.
 use Rattle.std.specs.Prelude.{◌≡◌, ℕ, List, Result, Err}
 use Rattle.kt_scene.specs.Outside.{Writer}
 use Rattle.kt_scene.specs.Stream.{WritesAll, WritesFront}
