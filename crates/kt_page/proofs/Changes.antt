@@ -98,7 +98,8 @@ pub put_of : (old new rest left come : List (Vec ℕ)) (front back : ℕ) → re
     → text_of new ≡ put front (length rest - back) (text_of come) (text_of old)
 put_of old new rest left come front back rest_is left_is come_is begins ends =
     let here = subst (λ (l : List (Vec ℕ)). text_of (drop (length rest - back) rest) ≡ text_of (drop (length l - back) l)) left_is ends in
-    let there = subst (λ (r : List (Vec ℕ)). text_of (drop (length r - back) r) ≡ text_of (drop (length (drop front new) - back) (drop front new))) rest_is here in
+    let there = subst (λ (r : List (Vec ℕ)). text_of (drop (length r - back) r) ≡ text_of (drop (length (drop front new) - back) (drop front new))) rest_is
+    here in
     put_is old new front back begins there
     ∙ ap (λ (r : List (Vec ℕ)). put front (length r - back) (text_of (take (length (drop front new) - back) (drop front new))) (text_of old)) (sym rest_is)
     ∙ ap (λ (l : List (Vec ℕ)). put front (length rest - back) (text_of (take (length l - back) l)) (text_of old)) (sym left_is)

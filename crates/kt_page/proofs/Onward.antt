@@ -40,14 +40,16 @@ made_goes number line s new step entry row is made leads later =
     ∙ ap (λ (t : State). behind t later) (sym leads)
 
 -- one that was refused ends them
-pub refused_goes : (number line : ℕ) (s new : State) (step : Step) (entry : Traced) (refused : Refused) → entry ≡ entry_of number line s step (step_result s step)
+pub refused_goes : (number line : ℕ) (s new : State) (step : Step) (entry : Traced) (refused : Refused)
+    → entry ≡ entry_of number line s step (step_result s step)
     → entry ≡ entries.Refused refused → new ≡ next_state s step → (later : List Step) → behind s (step ∷ later) ≡ new
 unfolding behind
 refused_goes number line s new step entry refused is ends leads later =
     led-to number line s step (step_result s step) refused (λ (t : State). behind t later) (sym ends ∙ is) ∙ sym leads
 
 -- and changes nothing
-pub refused_same : (number line : ℕ) (s new : State) (step : Step) (entry : Traced) (refused : Refused) → entry ≡ entry_of number line s step (step_result s step)
+pub refused_same : (number line : ℕ) (s new : State) (step : Step) (entry : Traced) (refused : Refused)
+    → entry ≡ entry_of number line s step (step_result s step)
     → entry ≡ entries.Refused refused → new ≡ next_state s step → new ≡ s
 refused_same number line s new step entry refused is ends leads =
     leads ∙ stayed number line s step (step_result s step) refused (sym ends ∙ is)

@@ -2,8 +2,8 @@
 //! of all steps.
 //!
 //! - Contract: what a page shows of nodes and links behind the last step is what the state there has (`watch`, clauses
-//!   `cells` and `state`). The lines that a change leaves are the new ones (`splice_of`, clause `put`). Text stands in the
-//!   page without signs of markup, and in the script's data without `<` (`push_escaped` of kt_draw, `push_string`).
+//!   `cells` and `state`). The lines that a change leaves are the new ones (`splice_of`, clause `put`). Text stands in
+//!   the page without signs of markup, and in the script's data without `<` (`push_escaped` of kt_draw, `push_string`).
 //! - Stands on: kt_tuple, kt_script, kt_space, kt_shard, kt_worker, kt_vote, kt_history, kt_ckpt, kt_store, kt_state,
 //!   kt_model, kt_core, kt_scene, kt_trace, kt_tell, kt_story, kt_draw
 //! - Begin in: `drawing.rt`, which goes from bytes to bytes, and `page.rt`, then `watch.rt` for what changes from step
