@@ -9,10 +9,7 @@ use std::alloc::{AllocError, Global};
 
 /// Puts the cell behind the others.
 #[tactic(auto, using(crate::proofs::Added::cell_more))]
-pub(crate) fn add_cell(
-    cells: &mut Vec<Vec<Vec<u8>>>,
-    lines: Vec<Vec<u8>>,
-) -> Result<(), AllocError>
+pub(crate) fn add_cell(cells: &mut Vec<Vec<Vec<u8>>>, lines: Vec<Vec<u8>>) -> Result<(), AllocError>
     ensures { OnOk result (cells_text cells.new.items ≡ cells_text cells.old.items ++ text_of lines.items ∷ []) }
 {
     cells.push(lines)?;

@@ -233,11 +233,7 @@ fn add_awaited(alloc: Global, lines: &mut Vec<Vec<u8>>, ballot: &Ballot) -> Resu
     Ok(())
 }
 
-fn add_missing(
-    alloc: Global,
-    lines: &mut Vec<Vec<u8>>,
-    nodes: &[NodeId],
-) -> Result<(), AllocError>
+fn add_missing(alloc: Global, lines: &mut Vec<Vec<u8>>, nodes: &[NodeId]) -> Result<(), AllocError>
     ensures { OnOk result (text_of lines.new.items ≡ text_of lines.old.items ++ awaited_lines nodes.now) }
 {
     match nodes.split_first() {

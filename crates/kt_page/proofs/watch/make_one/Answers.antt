@@ -9,7 +9,7 @@ returns-in_ok-push-in-Made-clause-goes c =
 pub returns-in-Refused-clause-same : goal.returns-in-Refused-clause-same
 returns-in-Refused-clause-same c =
     λ _. refused_same _ _ c.args.world.now.state c.trace_step.new.world.state c.args.step c.in_ok-entry.entry c.in-Refused.refused
-        c.in_ok-entry.ensures.entry c.in-Refused.is c.in_ok-entry.ensures.next
+    c.in_ok-entry.ensures.entry c.in-Refused.is c.in_ok-entry.ensures.next
 
 pub returns-in-Refused-clause-goes : goal.returns-in-Refused-clause-goes
 returns-in-Refused-clause-goes c =
