@@ -6,5 +6,5 @@ use Rattle.kt_draw.proofs.picture.rows_from.Goals as goal
 
 pub returns : goal.returns
 returns c =
-    rows_left c.rows.result.now c.split_at.result.1.now (c.args.first - 1) _ c.split_at.ensures.back (grind (arith, common_steps))
-    ∙ ap (drop (c.args.first - 1)) c.rows.ensures
+    rows_left c.rows-rows.result.now c.split_at.result.1.now (c.args.first - 1) _ c.split_at.ensures.back (grind (arith, common_steps))
+    ∙ ap (drop (c.args.first - 1)) c.rows-rows.ensures
