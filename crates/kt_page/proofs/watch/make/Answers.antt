@@ -13,10 +13,10 @@ loop-step-preserved c =
     let new = c.make_one.new.world.state in
     let within : c.loop-step.step-index < length c.args.steps.now = omega arith in
     record {
-      honest = c.in_ok-make_one.ensures.honest;
+      honest = c.in_ok-refused.ensures.honest;
       goes = went_more c.args.world.now.state c.loop-step.world.state new c.args.steps.now c.loop-step.step-index (Issue (Worker 0)) None within
           c.loop-step.invariant.goes
-          (λ later. c.in_ok-make_one.ensures.goes later ∙ ap (λ (r : Option Refused). going r new later) c.in-None.is);
+          (λ later. c.in_ok-refused.ensures.goes later ∙ ap (λ (r : Option Refused). going r new later) c.in-None.is);
     }
 
 pub returns-in-Some-clause-goes : goal.returns-in-Some-clause-goes
@@ -24,7 +24,7 @@ returns-in-Some-clause-goes c =
     let new = c.make_one.new.world.state in
     let within : c.loop-step.step-index < length c.args.steps.now = omega arith in
     went_more c.args.world.now.state c.loop-step.world.state new c.args.steps.now c.loop-step.step-index (Issue (Worker 0)) (Some c.in-Some.refused) within
-    c.loop-step.invariant.goes (λ later. c.in_ok-make_one.ensures.goes later ∙ ap (λ (r : Option Refused). going r new later) c.in-Some.is)
+    c.loop-step.invariant.goes (λ later. c.in_ok-refused.ensures.goes later ∙ ap (λ (r : Option Refused). going r new later) c.in-Some.is)
 
 pub returns-clause-goes : goal.returns-clause-goes
 returns-clause-goes c =

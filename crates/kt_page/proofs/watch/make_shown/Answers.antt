@@ -14,23 +14,23 @@ loop-step-preserved c =
     let new = c.make_one.new.world.state in
     let within : c.loop-step.step-index < length c.args.steps.now = omega arith in
     record {
-      honest = c.in_ok-make_one.ensures.honest;
-      cells = c.in_ok-shown.ensures;
+      honest = c.in_ok-refused.ensures.honest;
+      cells = c.in_ok-cells-in-None.ensures;
       leads = led_more _ c.loop-step.world.state new c.args.steps.now c.loop-step.step-index (Issue (Worker 0)) None within c.loop-step.invariant.leads
-          (λ later. c.in_ok-make_one.ensures.goes later ∙ ap (λ (r : Option Refused). going r new later) c.in-None.is);
+          (λ later. c.in_ok-refused.ensures.goes later ∙ ap (λ (r : Option Refused). going r new later) c.in-None.is);
     }
 
 pub returns-in-Some-clause-cells : goal.returns-in-Some-clause-cells
 returns-in-Some-clause-cells c =
     c.loop-step.invariant.cells
-    ∙ ap cells_of (sym (c.in_ok-make_one.ensures.same (ap is_some c.in-Some.is)))
+    ∙ ap cells_of (sym (c.in_ok-refused.ensures.same (ap is_some c.in-Some.is)))
 
 pub returns-in-Some-clause-state : goal.returns-in-Some-clause-state
 returns-in-Some-clause-state c =
     let new = c.make_one.new.world.state in
     let within : c.loop-step.step-index < length c.args.steps.now = omega arith in
     led_more _ c.loop-step.world.state new c.args.steps.now c.loop-step.step-index (Issue (Worker 0)) (Some c.in-Some.refused) within
-    c.loop-step.invariant.leads (λ later. c.in_ok-make_one.ensures.goes later ∙ ap (λ (r : Option Refused). going r new later) c.in-Some.is)
+    c.loop-step.invariant.leads (λ later. c.in_ok-refused.ensures.goes later ∙ ap (λ (r : Option Refused). going r new later) c.in-Some.is)
 
 pub returns-clause-state : goal.returns-clause-state
 returns-clause-state c =
