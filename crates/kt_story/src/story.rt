@@ -163,7 +163,6 @@ impl Story {
 }
 
 /// Whether nothing in the past of the act of this number is lost.
-#[tactic(auto, using(crate::proofs::Deciding::decided))]
 fn lasts(history: &History, number: u64) -> bool
     ensures { result ≡ survives history.now.notes number }
 {
