@@ -7,7 +7,8 @@ use Rattle.kt_draw.specs.Escaping.{entity, escaped, is_plain}
 
 -- one character, by what it is
 entity_plain : (a b d e f : Bool) (c : ℕ) → eqb c 60 ≡ b → eqb c 62 ≡ d → eqb c 34 ≡ e
-    → list_all is_plain (cond a (codes "&amp;") (cond b (codes "&lt;") (cond d (codes "&gt;") (cond e (codes "&quot;") (cond f (codes "&#8594;") (c ∷ [])))))) ≡ true
+    → list_all is_plain (cond a (codes "&amp;") (cond b (codes "&lt;") (cond d (codes "&gt;") (cond e (codes "&quot;") (cond f (codes "&#8594;") (c ∷
+    [])))))) ≡ true
 entity_plain true b d e f c less more quote = refl
 entity_plain false true d e f c less more quote = refl
 entity_plain false false true e f c less more quote = refl

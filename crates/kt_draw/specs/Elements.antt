@@ -1,5 +1,5 @@
 -- The elements of a picture as text, each on a line of its own.
--- Cited by element.rt, specs/Rows.
+-- Cited by element.rt, specs/Rows, `element::push_line`, `element::push_use`.
 use Rattle.std.specs.Prelude.{ℕ, List, [], ◌∷◌, ◌++◌, codes, decimal}
 use Rattle.kt_draw.specs.declared.element.Point.{Point}
 use Rattle.kt_draw.specs.Escaping.{escaped}

@@ -1,5 +1,5 @@
 -- How the rows of a picture are drawn: one below the other, each with its number and its mark.
--- Cited by Drawn, picture.rt, row.rt, sheet.rt, `row::push_rows`.
+-- Cited by Drawn, picture.rt, row.rt, sheet.rt, `picture::picture_of`, `row::push_row`, `row::push_rows`.
 use Rattle.std.specs.Prelude.{◌≡◌, ℕ, ◌+◌, ◌-◌, List, [], ◌∷◌, ◌++◌, codes, decimal, drop, min}
 use Rattle.kt_tuple.specs.declared.node.NodeId.{NodeId}
 use Rattle.kt_history.specs.declared.note.Note.{Note}

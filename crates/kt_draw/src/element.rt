@@ -2,7 +2,8 @@
 //! Cited by band.rt, legend.rt, life.rt, picture.rt, row.rt, sheet.rt, way.rt.
 
 ghost use Rattle.std.specs.Prelude.{◌≡◌, ◌++◌, OnOk};
-ghost use Rattle.kt_draw.specs.Elements.{box_text, label_text, line_text, number_attribute, use_text};
+ghost use Rattle.kt_draw.specs.Elements.{box_text, element, label_text, line_text, number_attribute};
+ghost use Rattle.kt_draw.specs.Elements.{place_attributes, point_text, use_text};
 
 use crate::escape::push_escaped;
 use kt_tuple::writing::push_number;
@@ -29,6 +30,35 @@ fn push_attribute(out: &mut Vec<u8>, name: &[u8], number: u64) -> Result<(), All
     Ok(())
 }
 
+/// The begin of an element: its name, and its classes.
+fn push_element(out: &mut Vec<u8>, name: &[u8], classes: &[u8]) -> Result<(), AllocError>
+    ensures { OnOk result (out.new.items ≡ out.old.items ++ element name.now classes.now) }
+{
+    out.push(b'<')?;
+    out.extend_from_slice(name)?;
+    out.extend_from_slice(b" class=\"")?;
+    out.extend_from_slice(classes)?;
+    out.push(b'"')?;
+    Ok(())
+}
+
+/// The attributes of an element that stands at the point.
+fn push_place(out: &mut Vec<u8>, at: Point) -> Result<(), AllocError>
+    ensures { OnOk result (out.new.items ≡ out.old.items ++ place_attributes at) }
+{
+    push_attribute(out, b"x", at.x)?;
+    push_attribute(out, b"y", at.y)
+}
+
+/// The point in a path.
+fn push_point(out: &mut Vec<u8>, at: Point) -> Result<(), AllocError>
+    ensures { OnOk result (out.new.items ≡ out.old.items ++ point_text at) }
+{
+    push_number(out, at.x)?;
+    out.push(b' ')?;
+    push_number(out, at.y)
+}
+
 /// Puts a text of these classes that begins at the point, or stands there as the classes say. The text is escaped.
 pub fn push_label(
     out: &mut Vec<u8>,
@@ -38,11 +68,8 @@ pub fn push_label(
 ) -> Result<(), AllocError>
     ensures { OnOk result (out.new.items ≡ out.old.items ++ label_text classes.now at text.now) }
 {
-    out.extend_from_slice(b"<text class=\"")?;
-    out.extend_from_slice(classes)?;
-    out.push(b'"')?;
-    push_attribute(out, b"x", at.x)?;
-    push_attribute(out, b"y", at.y)?;
+    push_element(out, b"text", classes)?;
+    push_place(out, at)?;
     out.push(b'>')?;
     push_escaped(out, text)?;
     out.extend_from_slice(b"</text>\n")
@@ -55,9 +82,9 @@ pub fn push_use(out: &mut Vec<u8>, name: &[u8], at: Point) -> Result<(), AllocEr
     out.extend_from_slice(b"<use href=\"#")?;
     out.extend_from_slice(name)?;
     out.push(b'"')?;
-    push_attribute(out, b"x", at.x)?;
-    push_attribute(out, b"y", at.y)?;
-    out.extend_from_slice(b"/>\n")
+    push_place(out, at)?;
+    out.extend_from_slice(b"/>\n")?;
+    Ok(())
 }
 
 /// Puts a line of these classes from the one point to the other.
@@ -69,17 +96,13 @@ pub fn push_line(
 ) -> Result<(), AllocError>
     ensures { OnOk result (out.new.items ≡ out.old.items ++ line_text classes.now from to) }
 {
-    out.extend_from_slice(b"<path class=\"")?;
-    out.extend_from_slice(classes)?;
-    out.extend_from_slice(b"\" d=\"M")?;
-    push_number(out, from.x)?;
-    out.push(b' ')?;
-    push_number(out, from.y)?;
+    push_element(out, b"path", classes)?;
+    out.extend_from_slice(b" d=\"M")?;
+    push_point(out, from)?;
     out.push(b'L')?;
-    push_number(out, to.x)?;
-    out.push(b' ')?;
-    push_number(out, to.y)?;
-    out.extend_from_slice(b"\"/>\n")
+    push_point(out, to)?;
+    out.extend_from_slice(b"\"/>\n")?;
+    Ok(())
 }
 
 /// Puts a box of these classes with this upper left corner, so wide and so high.
@@ -92,11 +115,8 @@ pub fn push_box(
 ) -> Result<(), AllocError>
     ensures { OnOk result (out.new.items ≡ out.old.items ++ box_text classes.now corner width height) }
 {
-    out.extend_from_slice(b"<rect class=\"")?;
-    out.extend_from_slice(classes)?;
-    out.push(b'"')?;
-    push_attribute(out, b"x", corner.x)?;
-    push_attribute(out, b"y", corner.y)?;
+    push_element(out, b"rect", classes)?;
+    push_place(out, corner)?;
     push_attribute(out, b"width", width)?;
     push_attribute(out, b"height", height)?;
     out.extend_from_slice(b"/>\n")

@@ -179,7 +179,8 @@ fn push_all(
     push_front(alloc, out, story, rows, drawing, height, form)?;
     push_rows(alloc, out, drawing.sheet, story, rows)?;
     let behind = behind_rows(alloc, story, drawing, &legend, form)?;
-    out.extend_from_slice(&behind)
+    out.extend_from_slice(&behind)?;
+    Ok(())
 }
 
 /// What stands before the rows: names, style, title, and the lines of nodes and messages.

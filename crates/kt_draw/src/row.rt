@@ -75,7 +75,8 @@ fn push_row(
 {
     push_row_begin(out, sheet, story, row)?;
     let text = row_text(alloc, sheet, story, row)?;
-    out.extend_from_slice(&text)
+    out.extend_from_slice(&text)?;
+    Ok(())
 }
 
 /// The number of the row's step, and its mark in the column of its node.

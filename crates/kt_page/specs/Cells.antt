@@ -1,5 +1,7 @@
 -- What the cells of a page show of a state: lines of text.
--- Cited by cells.rt, node_cells.rt, watch.rt.
+-- Cited by Added, Changes, adding.rt, cells.rt, node_cells.rt, specs/auxiliary/Found, watch.rt, `cells::cells_of`,
+--   `cells::push_all_ways`, `cells::push_nodes`, `cells::push_ways`, `node_cells::add_all_waiting`,
+--   `node_cells::ballot_lines`, `node_cells::push_others`, `watch::make_shown`, `watch::watch`.
 use Rattle.std.specs.Prelude.{ℕ, Bool, true, false, if◌then◌else◌, List, [], ◌∷◌, ◌++◌, codes, decimal, filter}
 use Rattle.std.specs.Prelude.{length, map, Option, None, Some, option_and_then}
 use Rattle.std.specs.List.{flat_map}
@@ -99,7 +101,7 @@ next_in w script = next_request script w
 -- what is unanswered, and else what comes next
 abbrev pub request_line : Option (List Command) → WorkerModel → Option Op → List ℕ
 request_line script w (Some op) = codes "waits for " ++ numbered_text w.number op
-request_line script w None = next_line (option_and_then script (next_in w))
+request_line script w None = next_line (option_and_then (next_in w) script)
 
 abbrev pub request_lines : Option (List Command) → Option WorkerModel → Lines
 request_lines script None = []
@@ -158,15 +160,17 @@ saved_lines s p = let row = row_of s.content p in
 
 -- ---- the cells
 
+-- of a worker its request, of a shard its tuples and who waits
+abbrev pub own_cells : State → NodeId → List Lines
+own_cells s (Worker n) = let p = Worker n in
+    request_lines (script_in s.scene p) (option_and_then worker_of (node s p)) ∷ []
+own_cells s (Shard n) = let y = option_and_then shard_of (node s (Shard n)) in tuple_lines y ∷ waiting_lines y ∷ []
+
 -- those of a node
 abbrev pub node_cells : State → NodeId → List Lines
-node_cells s (Worker n) = let p = Worker n in
-    (mode_word (mode_at s p) ∷ []) ∷ part_lines s.content (poll_at s p)
-    ∷ request_lines (script_in s.scene p) (option_and_then (node s p) worker_of)
-    ∷ kept_lines s p ∷ saved_lines s p ∷ []
-node_cells s (Shard n) = let p = Shard n in let y = option_and_then (node s p) shard_of in
-    (mode_word (mode_at s p) ∷ []) ∷ part_lines s.content (poll_at s p) ∷ tuple_lines y ∷ waiting_lines y
-    ∷ kept_lines s p ∷ saved_lines s p ∷ []
+node_cells s p =
+    (mode_word (mode_at s p) ∷ []) ∷ part_lines s.content (poll_at s p) ∷ own_cells s p
+    ++ kept_lines s p ∷ saved_lines s p ∷ []
 
 abbrev pub cells_at : State → NodeId → List Lines
 cells_at s p = if is_node s.scene p then node_cells s p else []

@@ -1,5 +1,5 @@
 -- Text as a JSON string that may stand within a `script` of HTML: no `<` is in it.
--- Cited by json.rt.
+-- Cited by json.rt, `json::push_string`.
 use Rattle.std.specs.Prelude.{ℕ, ◌==◌, if◌then◌else◌, List, [], ◌∷◌, ◌++◌, codes}
 use Rattle.std.specs.List.{flat_map}
 

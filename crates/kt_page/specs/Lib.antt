@@ -3,3 +3,5 @@ pub mod Json
 pub mod Splice
 pub mod Cells
 pub mod Drawing
+pub mod Watching
+pub mod auxiliary

@@ -1,5 +1,5 @@
 -- A message in a line of text. Code 26 stands for an arrow, which who writes the line puts there.
--- Cited by cells.rt, message.rt, specs/Cells.
+-- Cited by cells.rt, message.rt, node_cells.rt, specs/Cells, `cells::way_lines`, `node_cells::kept_lines`.
 use Rattle.std.specs.Prelude.{ℕ, Bool, true, false, List, [], ◌∷◌, ◌++◌, codes, decimal}
 use Rattle.kt_tuple.specs.declared.node.NodeId.{NodeId}
 use Rattle.kt_tuple.specs.Spelling.{node_text, op_text}
@@ -32,7 +32,7 @@ message_line (messages.App app) = talk_line app.talk
 message_line (messages.CheckAsk ask) = ask_line (codes "ask for a checkpoint") ask.instance
 message_line (messages.RollAsk ask) = ask_line (codes "ask to roll back") ask.instance
 message_line (messages.Vote vote) = ask_line (vote_words vote.yes) vote.instance
-message_line (messages.Verdict instance yes) = ask_line (verdict_words yes) instance
+message_line (messages.Verdict instance agreed) = ask_line (verdict_words agreed) instance
 
 -- what a node keeps back, and who sent it
 abbrev pub kept_line : NodeId → AppMessage → List ℕ

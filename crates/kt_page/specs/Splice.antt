@@ -1,7 +1,10 @@
 -- A change of lines.
--- Cited by cells.rt, node_cells.rt, splice.rt, watch.rt.
+-- Cited by Added, Changes, adding.rt, cells.rt, node_cells.rt, splice.rt, watch.rt, `cells::cells_of`,
+--   `cells::push_all_ways`, `cells::push_nodes`, `cells::push_ways`, `cells::way_lines`, `node_cells::add_all_waiting`,
+--   `node_cells::bag_lines`, `node_cells::ballot_lines`, `node_cells::kept_lines`, `splice::back_len`,
+--   `splice::front_len`, `watch::make_shown`.
 use Rattle.std.specs.Prelude.{ℕ, ◌+◌, List, ◌++◌, map, take, drop}
-use Rattle.std.specs.Vec.{Vec}
+use Rattle.std.specs.Global.{Vec}
 
 -- at this place so many lines are taken out, and these are put there
 abbrev pub put : {A : Type 0} → ℕ → ℕ → List A → List A → List A

@@ -2,14 +2,19 @@
 //! Cited by watch.rt.
 
 ghost use Rattle.std.specs.Prelude.{◌≡◌, ◌++◌, IfOk, OnOk, map};
+ghost use Rattle.std.specs.List.{flat_map};
+ghost use Rattle.std.specs.Option.{option_copied};
 ghost use Rattle.kt_model.specs.State.{link};
 ghost use Rattle.kt_page.specs.Cells.{cells_at, cells_of, way_cells, ways_from};
 ghost use Rattle.kt_page.specs.Lines.{message_line};
 ghost use Rattle.kt_page.specs.Splice.{cells_text, text_of};
+ghost use Rattle.kt_page.specs.auxiliary.Found.{line_if};
 
+use crate::adding::{add_cell, add_line};
 use crate::message::push_message;
 use crate::node_cells::push_node_cells;
 use kt_core::World;
+use kt_state::Message;
 use kt_store::MemStore;
 use kt_tuple::{ALL_NODES, NodeId};
 use std::alloc::{AllocError, Global};
@@ -22,13 +27,25 @@ pub(crate) fn cells_of(
     ensures { IfOk result (λ cells. cells_text cells.items ≡ cells_of world.now.state) }
 {
     let mut cells = Vec::new(alloc);
-    for node in &ALL_NODES {
-        push_cells_at(alloc, &mut cells, world, *node)?;
-    }
-    for from in &ALL_NODES {
-        push_ways_from(alloc, &mut cells, world, *from)?;
-    }
+    push_nodes(alloc, &mut cells, world, &ALL_NODES)?;
+    push_all_ways(alloc, &mut cells, world, &ALL_NODES)?;
     Ok(cells)
+}
+
+/// Those of these nodes, of each that is in the scene.
+fn push_nodes(
+    alloc: Global,
+    cells: &mut Vec<Vec<Vec<u8>>>,
+    world: &World<MemStore>,
+    nodes: &[NodeId],
+) -> Result<(), AllocError>
+    ensures { OnOk result
+        (cells_text cells.new.items ≡ cells_text cells.old.items ++ flat_map (cells_at world.now.state) nodes.now) }
+{
+    for node in nodes {
+        push_cells_at(alloc, cells, world, *node)?;
+    }
+    Ok(())
 }
 
 /// Those of the node, where it is in the scene.
@@ -47,16 +64,34 @@ fn push_cells_at(
     }
 }
 
-/// Those of the links from the node.
-fn push_ways_from(
+/// Those of the links from these nodes.
+fn push_all_ways(
+    alloc: Global,
+    cells: &mut Vec<Vec<Vec<u8>>>,
+    world: &World<MemStore>,
+    nodes: &[NodeId],
+) -> Result<(), AllocError>
+    ensures { OnOk result
+        (cells_text cells.new.items ≡ cells_text cells.old.items ++ flat_map (ways_from world.now.state) nodes.now) }
+{
+    for from in nodes {
+        push_ways(alloc, cells, world, *from, &ALL_NODES)?;
+    }
+    Ok(())
+}
+
+/// Those of the links from the node to these.
+fn push_ways(
     alloc: Global,
     cells: &mut Vec<Vec<Vec<u8>>>,
     world: &World<MemStore>,
     from: NodeId,
+    nodes: &[NodeId],
 ) -> Result<(), AllocError>
-    ensures { OnOk result (cells_text cells.new.items ≡ cells_text cells.old.items ++ ways_from world.now.state from) }
+    ensures { OnOk result (cells_text cells.new.items
+        ≡ cells_text cells.old.items ++ flat_map (way_cells world.now.state from) nodes.now) }
 {
-    for to in &ALL_NODES {
+    for to in nodes {
         push_way(alloc, cells, world, from, *to)?;
     }
     Ok(())
@@ -74,7 +109,7 @@ fn push_way(
         (cells_text cells.new.items ≡ cells_text cells.old.items ++ way_cells world.now.state from to) }
 {
     if world.scene().are_neighbours(from, to) {
-        cells.push(way_lines(alloc, world, from, to)?)?;
+        add_cell(cells, way_lines(alloc, world, from, to)?)?;
     }
     Ok(())
 }
@@ -90,11 +125,24 @@ fn way_lines(
 {
     let mut lines = Vec::new(alloc);
     for place in 0..world.link_len(from, to) {
-        if let Some(message) = world.link_at(from, to, place) {
-            let mut line = Vec::new(alloc);
-            push_message(&mut line, message)?;
-            lines.push(line)?;
-        }
+        add_message(alloc, &mut lines, world.link_at(from, to, place))?;
     }
     Ok(lines)
+}
+
+/// Puts the line of the message behind the others, where there is one.
+fn add_message(
+    alloc: Global,
+    lines: &mut Vec<Vec<u8>>,
+    message: Option<&Message>,
+) -> Result<(), AllocError>
+    ensures { OnOk result
+        (text_of lines.new.items ≡ text_of lines.old.items ++ line_if message_line (option_copied message.entry)) }
+{
+    if let Some(message) = message {
+        let mut line = Vec::new(alloc);
+        push_message(&mut line, message)?;
+        add_line(lines, line)?;
+    }
+    Ok(())
 }

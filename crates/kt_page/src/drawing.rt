@@ -60,7 +60,7 @@ pub fn write_drawing<R: Read, W: Write, O: Observer>(
     ensures ends { EndsDrawing drawing reader.old reader.new writer.old writer.new result }
 {
     match read_text(alloc, reader) {
-        Ok(text) => match drawn(alloc, &text, drawing, observer) {
+        Ok(text) => match drawing_of(alloc, &text, drawing, observer) {
             Ok(drawn) => match write_text(writer, &drawn.text) {
                 Ok(()) => ending(&drawn.story),
                 Err(fault) => Err(DrawFault::Replay(fault)),
@@ -72,7 +72,7 @@ pub fn write_drawing<R: Read, W: Write, O: Observer>(
 }
 
 /// The drawing of the scenario that the text spells.
-fn drawn<O: Observer>(
+fn drawing_of<O: Observer>(
     alloc: Global,
     text: &[u8],
     drawing: Drawing,

@@ -1,7 +1,7 @@
 //! What became of each service and of each check and rollback, up to a step.
 //! Cited by page.rt, table.rt.
 
-use crate::node_cells::add_line;
+use crate::adding::add_text;
 use kt_core::Step;
 use kt_history::{Act, Note, What};
 use kt_story::{Story, push_count, push_reason, push_service};
@@ -131,7 +131,7 @@ impl Fate {
                 Some(reason) => reason,
                 None => b"survives".as_slice(),
             };
-            add_line(alloc, &mut lines, text)?;
+            add_text(alloc, &mut lines, text)?;
         }
         Ok(lines)
     }
@@ -147,7 +147,7 @@ impl Begun {
                 Some((step, false)) if step <= at => b"no".as_slice(),
                 _ => b"open".as_slice(),
             };
-            add_line(alloc, &mut lines, text)?;
+            add_text(alloc, &mut lines, text)?;
         }
         Ok(lines)
     }

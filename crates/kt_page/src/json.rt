@@ -4,7 +4,7 @@
 ghost use Rattle.std.specs.Prelude.{◌≡◌, ◌++◌, OnOk};
 ghost use Rattle.kt_page.specs.Json.{character_json, string_json};
 
-use crate::splice::{Splice, splice};
+use crate::splice::{Splice, splice_of};
 use kt_story::ARROW;
 use kt_tuple::writing::push_number;
 use std::alloc::AllocError;
@@ -33,7 +33,7 @@ fn push_change(
     old: &[Vec<u8>],
     new: &[Vec<u8>],
 ) -> Result<(), AllocError> {
-    let Some(Splice { at, gone, come }) = splice(old, new) else {
+    let Some(Splice { at, gone, come }) = splice_of(old, new) else {
         return Ok(());
     };
     if !out.is_empty() {

@@ -3,7 +3,7 @@
 //!
 //! - Contract: what is drawn of a text has a row for each step that was chosen, once and in order (`write_drawing`,
 //!   clause `ends`). What a page shows of nodes and links behind the last step is what the state there has (`watch`,
-//!   clauses `cells` and `story`). The lines that a change leaves are the new ones (`splice`, clause `put`). Text stands
+//!   clauses `cells` and `story`). The lines that a change leaves are the new ones (`splice_of`, clause `put`). Text stands
 //!   in the page without signs of markup, and in the script's data without `<` (`push_escaped` of kt_draw,
 //!   `push_string`).
 //! - Stands on: kt_tuple, kt_script, kt_space, kt_shard, kt_worker, kt_vote, kt_history, kt_scenario, kt_text, kt_ckpt,

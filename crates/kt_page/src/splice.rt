@@ -1,7 +1,7 @@
 //! What changes of a list of lines.
 //! Cited by json.rt.
 
-ghost use Rattle.std.specs.Prelude.{◌≡◌, ◌≤◌, length, IfSome, None};
+ghost use Rattle.std.specs.Prelude.{◌≡◌, ◌≤◌, ◌↔◌, ◌-◌, drop, length, take, IfSome, IsTrue, None};
 ghost use Rattle.kt_page.specs.Splice.{put, text_of};
 
 /// A change of lines: at this place so many are taken out, and these are put there.
@@ -17,7 +17,7 @@ pub(crate) struct Splice<'a> {
 
 /// What makes the new lines of the old ones; `None` where they are equal. What both begin with stays, and of the rest
 /// what both end with.
-pub(crate) fn splice<'a>(old: &[Vec<u8>], new: &'a [Vec<u8>]) -> Option<Splice<'a>>
+pub(crate) fn splice_of<'a>(old: &[Vec<u8>], new: &'a [Vec<u8>]) -> Option<Splice<'a>>
     ensures put { IfSome result (λ s. text_of (new.now) ≡ put s.at s.gone (text_of (s.come.now)) (text_of (old.now))) }
     ensures none { result ≡ None → text_of old.now ≡ text_of new.now }
 {
@@ -40,10 +40,11 @@ pub(crate) fn splice<'a>(old: &[Vec<u8>], new: &'a [Vec<u8>]) -> Option<Splice<'
 fn front_len(old: &[Vec<u8>], new: &[Vec<u8>]) -> usize
     ensures old { result ≤ length old.now }
     ensures new { result ≤ length new.now }
+    ensures same { text_of (take result old.now) ≡ text_of (take result new.now) }
 {
     let most = old.len().min(new.len());
     for place in 0..most {
-        if old[place] != new[place] {
+        if !is_same(&old[place], &new[place]) {
             return place;
         }
     }
@@ -54,12 +55,19 @@ fn front_len(old: &[Vec<u8>], new: &[Vec<u8>]) -> usize
 fn back_len(old: &[Vec<u8>], new: &[Vec<u8>]) -> usize
     ensures old { result ≤ length old.now }
     ensures new { result ≤ length new.now }
+    ensures same { text_of (drop (length old.now - result) old.now) ≡ text_of (drop (length new.now - result) new.now) }
 {
     let most = old.len().min(new.len());
     for place in 0..most {
-        if old[old.len() - 1 - place] != new[new.len() - 1 - place] {
+        if !is_same(&old[old.len() - 1 - place], &new[new.len() - 1 - place]) {
             return place;
         }
     }
     most
+}
+
+fn is_same(old: &[u8], new: &[u8]) -> bool
+    ensures { IsTrue result ↔ (old.now ≡ new.now) }
+{
+    old == new
 }

@@ -1,5 +1,5 @@
 -- What a history answers of an act is whether that survives by the test that computes.
--- Cited by story.rt.
+-- Cited by `story::lasts`.
 use Rattle.std.proofs.Common.{◌≡◌, ◌↔◌, ℕ, Bool, true, false, IsTrue, List, refl, sym}
 use Rattle.kt_history.specs.declared.note.Note.{Note}
 use Rattle.kt_history.specs.Survival.{Survives, survives}

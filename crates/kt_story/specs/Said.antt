@@ -1,5 +1,5 @@
 -- What is said of services, checkpoints and losses. Code 26 stands for an arrow, which who writes the text puts there.
--- Cited by words.rt; other crates.
+-- Cited by Cutting, words.rt; other crates.
 use Rattle.std.specs.Prelude.{ℕ, ◌-◌, ◌/◌, ◌==◌, nat_le, Bool, true, false, if◌then◌else◌, List, [], ◌∷◌, ◌++◌}
 use Rattle.std.specs.Prelude.{codes, decimal, length, take}
 use Rattle.kt_tuple.specs.declared.node.NodeId.{NodeId}

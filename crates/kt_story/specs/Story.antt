@@ -1,5 +1,5 @@
 -- What happened in a scene: the rows of its trace, the state behind them, and which acts of it survive.
--- Cited by story.rt; other crates.
+-- Cited by Splitting, Telling, story.rt, `story::split`; other crates.
 use Rattle.std.specs.Prelude.{◌≡◌, ℕ, Bool, true, false, not, ◌&&◌, List, [], ◌∷◌, Option, None, Some}
 use Rattle.std.specs.List.{filter_map}
 use Rattle.kt_history.specs.declared.note.Note.{Note}
@@ -30,7 +30,7 @@ abbrev pub made_rows : List Traced → List TracedStep
 made_rows all = filter_map made_row all
 
 -- the refusal that ends the entries, and else the one that is given
-unfoldable pub last_refused : Option Refused → List Traced → Option Refused
+abbrev pub last_refused : Option Refused → List Traced → Option Refused
 last_refused so_far [] = so_far
 last_refused so_far (entries.Made row ∷ later) = last_refused so_far later
 last_refused so_far (entries.Refused refused ∷ later) = last_refused (Some refused) later

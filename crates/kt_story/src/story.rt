@@ -1,7 +1,7 @@
 //! What happened in a scene: its rows, the world behind them, and what was lost.
 //! Cited by arrow.rt, words.rt; other crates.
 
-ghost use Rattle.std.specs.Prelude.{◌≡◌, ◌++◌, IfOk, IsTrue, None, OnOk};
+ghost use Rattle.std.specs.Prelude.{◌≡◌, ◌++◌, ◌∷◌, [], IfOk, IsTrue, None, OnOk};
 ghost use Rattle.kt_history.specs.Survival.{survives};
 ghost use Rattle.kt_model.specs.Reached.{opening};
 ghost use Rattle.kt_story.specs.Marks.{mark_of};
@@ -13,7 +13,7 @@ use kt_core::{Scene, Step, World};
 use kt_history::{History, Note};
 use kt_losses::{Loss, losses};
 use kt_store::MemStore;
-use kt_trace::{Refused, Traced, TracedStep, trace_on};
+use kt_trace::{Refused, Traced, TracedStep, trace_on, world_of};
 use kt_tuple::NodeId;
 use std::alloc::{AllocError, Global};
 use std::marker::Model;
@@ -57,15 +57,12 @@ impl Story {
     pub fn of(alloc: Global, scene: Scene, steps: &[Step]) -> Result<Story, AllocError>
         ensures told { IfOk result (IsStoryOf (opening scene) steps.now) }
     {
-        let mut world = match World::open(alloc, scene, MemStore::new(alloc)) {
-            Ok(world) => world,
-            // A fresh store in memory refuses for want of memory alone.
-            Err(_) => return Err(AllocError),
-        };
+        let mut world = world_of(alloc, scene)?;
         let entries = trace_on(alloc, &mut world, steps, &[])?;
         let mut rows = Vec::new(alloc);
         let refused = split(&mut rows, entries)?;
-        Story::ended(alloc, world, rows, refused)
+        let story = Story::ended(alloc, world, rows, refused)?;
+        Ok(story)
     }
 
     /// The story that ends in this world, to which the steps of these rows led, and the step that was refused there.
@@ -166,7 +163,6 @@ impl Story {
 }
 
 /// Whether nothing in the past of the act of this number is lost.
-#[tactic(auto, using(crate::proofs::Deciding::decided))]
 fn lasts(history: &History, number: u64) -> bool
     ensures { result ≡ survives history.now.notes number }
 {
@@ -182,10 +178,25 @@ fn split(rows: &mut Vec<TracedStep>, entries: Vec<Traced>) -> Result<Option<Refu
 {
     let mut refused = None;
     for entry in entries {
-        match entry {
-            Traced::Made(row) => rows.push(row)?,
-            Traced::Refused(last) => refused = Some(last),
-        }
+        refused = put(rows, refused, entry)?;
     }
     Ok(refused)
+}
+
+/// Puts the entry's row behind the others, or gives its refusal, and else the one from before.
+fn put(
+    rows: &mut Vec<TracedStep>,
+    before: Option<Refused>,
+    entry: Traced,
+) -> Result<Option<Refused>, AllocError>
+    ensures rows { OnOk result (rows.new.items ≡ rows.old.items ++ made_rows (entry ∷ [])) }
+    ensures refused { IfOk result (λ refused. refused ≡ last_refused before (entry ∷ [])) }
+{
+    match entry {
+        Traced::Made(row) => {
+            rows.push(row)?;
+            Ok(before)
+        }
+        Traced::Refused(refused) => Ok(Some(refused)),
+    }
 }

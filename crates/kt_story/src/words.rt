@@ -1,8 +1,9 @@
 //! What is said of a row, of a service, and of why it is lost.
 //! Cited by other crates.
 
-ghost use Rattle.std.specs.Prelude.{◌≡◌, ◌++◌, ◌≤◌, ◌+◌, length, OnOk};
-ghost use Rattle.kt_story.specs.Said.{count_text, got_text, reason_text, saved_text, service_text, shortened};
+ghost use Rattle.std.specs.Prelude.{◌≡◌, ◌++◌, ◌∷◌, [], ℕ, List, length, OnOk};
+ghost use Rattle.kt_story.specs.Said.{count_text, got_text, how_text, reason_text, saved_text, service_text};
+ghost use Rattle.kt_story.specs.Said.{shortened, told_text};
 
 use crate::story::{Blame, Story};
 use kt_core::Step;
@@ -92,15 +93,31 @@ pub fn push_service(
     let start = out.len();
     op.write_to(out)?;
     shorten(out, start, most)?;
+    push_told(out, answer, most / 2)?;
+    Ok(())
+}
+
+/// What was got where that tells more than that it was done, behind an arrow. It has so many characters at most.
+fn push_told(out: &mut Vec<u8>, answer: &Answer, most: usize) -> Result<(), AllocError>
+    ensures { OnOk result (out.new.items ≡ out.old.items ++ told_text answer.now most) }
+{
     match answer {
         Answer::Done => Ok(()),
         Answer::Got(_) | Answer::None => {
             push_arrow(out)?;
-            let behind = out.len();
-            push_got(out, answer)?;
-            shorten(out, behind, most / 2)
+            push_short(out, answer, most)
         }
     }
+}
+
+/// What was got, without the word for it, in so many characters at most.
+fn push_short(out: &mut Vec<u8>, answer: &Answer, most: usize) -> Result<(), AllocError>
+    ensures { OnOk result (out.new.items ≡ out.old.items ++ shortened (got_text answer.now) most) }
+{
+    let start = out.len();
+    push_got(out, answer)?;
+    shorten(out, start, most)?;
+    Ok(())
 }
 
 /// The arrow with a space on each side.
@@ -130,14 +147,21 @@ pub fn push_reason(out: &mut Vec<u8>, blame: Blame) -> Result<(), AllocError>
 {
     out.extend_from_slice(b"lost when ")?;
     blame.node.write_to(out)?;
-    if blame.failed {
-        out.extend_from_slice(b" failed (step ")?;
-    } else {
-        out.extend_from_slice(b" rolled back (step ")?;
-    }
+    out.extend_from_slice(how_text(blame.failed))?;
     push_number(out, blame.step)?;
     out.push(b')')?;
     Ok(())
+}
+
+/// How the node lost it.
+fn how_text(failed: bool) -> &'static [u8]
+    ensures { result.now ≡ how_text failed }
+{
+    if failed {
+        b" failed (step "
+    } else {
+        b" rolled back (step "
+    }
 }
 
 /// How many of something there are, whose word is that for one.
@@ -207,10 +231,14 @@ fn push_trace(out: &mut Vec<u8>, row: &TracedStep) -> Result<(), AllocError> {
 }
 
 /// Cuts what stands behind the first so many bytes down to the most characters, the last three of which are dots then.
-fn shorten(text: &mut Vec<u8>, start: usize, most: usize) -> Result<(), AllocError> {
+fn shorten(text: &mut Vec<u8>, start: usize, most: usize) -> Result<(), AllocError>
+    ensures { OnOk result ((front behind : List ℕ) → text.old.items ≡ front ++ behind → start ≡ length front
+        → text.new.items ≡ front ++ shortened behind most) }
+{
     if text.len() <= start.saturating_add(most) {
         return Ok(());
     }
     text.truncate(start.saturating_add(most.saturating_sub(3)));
-    text.extend_from_slice(b"...")
+    text.extend_from_slice(b"...")?;
+    Ok(())
 }

@@ -1,7 +1,7 @@
 -- Tokens that are written one piece behind the other.
--- Cited by `events_json::push_app`, `events_json::push_talk`, `rows_json::push_events`, `rows_json::push_modes`,
---   `rows_json::push_outcome`, `rows_json::push_place`, `rows_json::push_refused`, `rows_json::push_row`,
---   `rows_json::push_talk`.
+-- Cited by `events_json::push_app`, `events_json::push_reply`, `events_json::push_request`, `rows_json::push_events`,
+--   `rows_json::push_modes`, `rows_json::push_outcome`, `rows_json::push_place`, `rows_json::push_refused`,
+--   `rows_json::push_row`, `rows_json::push_talk`.
 use Rattle.std.proofs.Common.{◌≡◌, List, [], ◌∷◌, ◌++◌, refl, sym, ap, ◌∙◌, append_assoc, append-nil}
 use Rattle.json.specs.Token.{Token, begin_object, key}
 use Rattle.json.specs.Tree.{json_tokens, members_tokens}

@@ -109,15 +109,15 @@ vote_json vote = with_word (codes "vote")
     ∷ (codes "yes", boolean vote.yes) ∷ [])
 
 abbrev pub verdict_json : ℕ → Bool → Json
-verdict_json instance yes =
-    with_word (codes "verdict") ((codes "instance", count instance) ∷ (codes "yes", boolean yes) ∷ [])
+verdict_json instance agreed =
+    with_word (codes "verdict") ((codes "instance", count instance) ∷ (codes "yes", boolean agreed) ∷ [])
 
 abbrev pub message_json : Message → Json
 message_json (messages.App m) = app_json m
 message_json (messages.CheckAsk ask) = ask_json (codes "check") ask
 message_json (messages.RollAsk ask) = ask_json (codes "rollback") ask
 message_json (messages.Vote vote) = vote_json vote
-message_json (messages.Verdict instance yes) = verdict_json instance yes
+message_json (messages.Verdict instance agreed) = verdict_json instance agreed
 
 -- a message, and the node that sent it or that it is sent to
 abbrev pub with_node : List ℕ → NodeId × Message → Json

@@ -1,5 +1,5 @@
 -- What a text is told as, and how the telling of a trace ends, from bytes to bytes.
--- Cited by Tellings, telling.rt, `telling::ending`.
+-- Cited by Tellings, specs/auxiliary/Endings, telling.rt, `telling::ending`, `telling::write_trace`.
 use Rattle.std.specs.Prelude.{◌≡◌, ℕ, List, [], ◌∷◌, Result, Ok, Err}
 use Rattle.kt_scenario.specs.declared.step.Step.{Step}
 use Rattle.kt_scenario.specs.Scene.{SceneModel}

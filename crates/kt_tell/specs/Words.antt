@@ -1,6 +1,6 @@
 -- What a line of a trace says: one table of words over steps and events.
 -- Cited by heads.rt, names.rt, specs/Shape, specs/Told, tails.rt, words.rt, `rows_json::push_refused`,
---   `tails::push_sent`, `words::words_of`; other crates.
+--   `tails::push_sent`, `words::push_made`, `words::words_of`; other crates.
 use Rattle.std.specs.Prelude.{ℕ, ◌==◌, Bool, true, false, if◌then◌else◌, List, [], ◌∷◌, ◌++◌, codes, decimal}
 use Rattle.std.specs.Prelude.{Option, None, Some}
 use Rattle.std.specs.List.{flat_map}
@@ -108,7 +108,7 @@ control_verb (messages.App app) = (codes " hears ", codes "")
 control_verb (messages.CheckAsk ask) = (codes " is asked by ", codes " for a checkpoint")
 control_verb (messages.RollAsk ask) = (codes " is asked by ", codes " to roll back")
 control_verb (messages.Vote vote) = voting_verb vote.yes
-control_verb (messages.Verdict instance yes) = verdict_verb yes
+control_verb (messages.Verdict instance agreed) = verdict_verb agreed
 
 -- the number of a check or a rollback
 abbrev pub instance_text : ℕ → List ℕ
@@ -130,8 +130,8 @@ arrival_of row from (messages.App app) = around (arrival_verb row.keeps) (node_t
 arrival_of row from (messages.CheckAsk ask) = control_text row.was from (messages.CheckAsk ask) ask.instance
 arrival_of row from (messages.RollAsk ask) = control_text row.was from (messages.RollAsk ask) ask.instance
 arrival_of row from (messages.Vote vote) = control_text row.was from (messages.Vote vote) vote.instance
-arrival_of row from (messages.Verdict instance yes) =
-    control_text row.was from (messages.Verdict instance yes) instance
+arrival_of row from (messages.Verdict instance agreed) =
+    control_text row.was from (messages.Verdict instance agreed) instance
 
 abbrev pub arrival_text : TracedStep → NodeId × Message → List ℕ
 arrival_text row h = arrival_of row h.0 h.1
@@ -191,10 +191,13 @@ back_by None = []
 back_by (Some (notes.Act a)) = []
 back_by (Some (notes.Cut p keep)) = codes ", goes back to its checkpoint"
 
+abbrev pub is_failure : Step → Bool
+is_failure (Fail p) = true
+is_failure step = false
+
 -- a node that gives up what it did goes back to its checkpoint; of one that fails the step has said it
 abbrev pub back_text : Step → Option Note → List ℕ
-back_text (Fail p) note = []
-back_text step note = back_by note
+back_text step event = if is_failure step then [] else back_by event
 
 abbrev pub from_down : Mode → List ℕ
 from_down modes.Up = codes ", is up"
@@ -231,13 +234,16 @@ sent_to_text name (messages.App app) = []
 sent_to_text name (messages.CheckAsk ask) = around (codes ", asks ", codes " for a checkpoint") name
 sent_to_text name (messages.RollAsk ask) = around (codes ", asks ", codes " to roll back") name
 sent_to_text name (messages.Vote vote) = around (votes_verb vote.yes) name
-sent_to_text name (messages.Verdict instance yes) = around (codes ", tells ", []) name
+sent_to_text name (messages.Verdict instance agreed) = around (codes ", tells ", []) name
 
 abbrev pub sent_text : NodeId × Message → List ℕ
 sent_text x = sent_to_text (node_text x.0) x.1
 
+abbrev pub many_text : ℕ → List ℕ
+many_text n = codes ", " ++ decimal n ++ codes " services undone"
+
 abbrev pub services_text : ℕ → List ℕ
-services_text n = if n == 1 then codes ", 1 service undone" else codes ", " ++ decimal n ++ codes " services undone"
+services_text n = if n == 1 then codes ", 1 service undone" else many_text n
 
 -- services that a cut undid, or one that was made of what was undone before
 abbrev pub undone_by : Option Note → ℕ → List ℕ
@@ -272,11 +278,15 @@ refusal_name refusals.StepLimit = codes "StepLimit"
 refusal_name (refusals.Store refusal) = codes "Store"
 refusal_name refusals.OutOfMemory = codes "OutOfMemory"
 
+-- the number and the name of the refusal
+abbrev pub cause_text : StepError → List ℕ
+cause_text cause = decimal (refusal_number cause) ++ 32 ∷ refusal_name cause
+
 -- the step's number, the step, and why it was refused
 abbrev pub refused_line : Refused → List ℕ
 refused_line refused =
-    decimal refused.number ++ 32 ∷ step_text refused.step ++ codes " is refused: "
-    ++ decimal (refusal_number refused.cause) ++ 32 ∷ refusal_name refused.cause ++ line_end
+    decimal refused.number ++ 32 ∷ step_text refused.step ++ codes " is refused: " ++ cause_text refused.cause
+    ++ line_end
 
 abbrev pub entry_line : Traced → List ℕ
 entry_line (entries.Made row) = made_line row

@@ -9,10 +9,12 @@ ghost use Rattle.kt_tell.specs.Shape.{act_json, answer_in, app_json, ask_json, e
 ghost use Rattle.kt_tell.specs.Shape.{mode_json, of_node, of_pair, of_service, step_json};
 ghost use Rattle.kt_tell.specs.Shape.{talk_members, verdict_json, vote_json, what_word};
 ghost use Rattle.kt_tell.specs.auxiliary.Members.{in_object};
+ghost use Rattle.kt_state.specs.declared.message.Talk.TheVariants as talks;
 
 use kt_history::{Act, Note, What};
 use kt_link::Label;
 use kt_scenario::Step;
+use kt_shard::Request;
 use kt_show::{Draft, push_member, push_optional};
 use kt_state::{AppMessage, Ask, Message, Mode, Talk};
 use kt_tuple::{Answer, NodeId};
@@ -129,20 +131,29 @@ fn push_talk(out: &mut Draft, talk: &Talk) -> Result<(), AllocError>
     ensures { OnOk result (out.new ≡ out.old ++ begin_object ∷ in_object (talk_members talk.now)) }
 {
     match talk {
-        Talk::Request(request) => {
-            begin_worded(out, "request")?;
-            push_member(out, "request", &request.number)?;
-            push_member(out, "operation", &request.op)?;
-            Ok(())
-        }
-        Talk::Reply { request, answer } => {
-            begin_worded(out, "reply")?;
-            push_member(out, "request", &request.number)?;
-            push_member(out, "operation", &request.op)?;
-            push_member(out, "answer", answer)?;
-            Ok(())
-        }
+        Talk::Request(request) => push_request(out, request),
+        Talk::Reply { request, answer } => push_reply(out, request, answer),
     }
+}
+
+fn push_request(out: &mut Draft, request: &Request) -> Result<(), AllocError>
+    ensures { OnOk result (out.new ≡ out.old ++ begin_object ∷ in_object (talk_members (talks.Request request.now))) }
+{
+    begin_worded(out, "request")?;
+    push_member(out, "request", &request.number)?;
+    push_member(out, "operation", &request.op)?;
+    Ok(())
+}
+
+fn push_reply(out: &mut Draft, request: &Request, answer: &Answer) -> Result<(), AllocError>
+    ensures { OnOk result (out.new
+        ≡ out.old ++ begin_object ∷ in_object (talk_members (talks.Reply request.now answer.now))) }
+{
+    begin_worded(out, "reply")?;
+    push_member(out, "request", &request.number)?;
+    push_member(out, "operation", &request.op)?;
+    push_member(out, "answer", answer)?;
+    Ok(())
 }
 
 /// The member with a label.

@@ -3,7 +3,7 @@
 
 ghost use Rattle.std.specs.Prelude.{◌≡◌, ◌++◌, OnOk};
 ghost use Rattle.kt_tell.specs.Words.{act_text, answer_behind, around, arrival_text, control_text, head_text};
-ghost use Rattle.kt_tell.specs.Words.{instance_text, peer_text, talk_text};
+ghost use Rattle.kt_tell.specs.Words.{dropped_text, instance_text, peer_text, talk_text};
 ghost use Rattle.kt_tuple.specs.Spelling.{node_text};
 
 use crate::names::{Verb, act_verb, arrival_verb, control_verb, deed};
@@ -115,6 +115,13 @@ fn push_control(
 {
     push_verb(out, control_verb(message), from)?;
     push_instance(out, instance)?;
+    push_dropped(out, was)
+}
+
+/// That a node that is down drops what came.
+fn push_dropped(out: &mut Vec<u8>, was: Mode) -> Result<(), AllocError>
+    ensures { OnOk result (out.new.items ≡ out.old.items ++ dropped_text was) }
+{
     match was {
         Mode::Down => out.extend_from_slice(b", and drops it"),
         Mode::Up | Mode::Held | Mode::Rolling => Ok(()),

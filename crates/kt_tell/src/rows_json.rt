@@ -38,7 +38,6 @@ use std::alloc::{AllocError, Global};
 /// - `undone`, how many more services there are behind it that do not survive.
 ///
 /// A step that was refused has `number`, `line`, `step` and `refused`, the name of the refusal.
-#[tactic(auto, using(crate::proofs::Pieces::chosen_all))]
 pub fn json_of(alloc: Global, entries: &[Traced], choice: Choice) -> Result<Vec<u8>, AllocError>
     ensures text { IfOk result (λ text. text.items ≡ trace_json (told choice entries.now)) }
 {
@@ -206,9 +205,17 @@ fn push_saving(out: &mut Draft, saving: Option<Saving>) -> Result<(), AllocError
 {
     match saving {
         None => out.null(),
-        Some(Saving::Taken(instance)) => push_saved(out, "taken", instance),
-        Some(Saving::Permanent(instance)) => push_saved(out, "permanent", instance),
-        Some(Saving::GivenUp(instance)) => push_saved(out, "given_up", instance),
+        Some(saving) => push_saving_json(out, saving),
+    }
+}
+
+fn push_saving_json(out: &mut Draft, saving: Saving) -> Result<(), AllocError>
+    ensures { OnOk result (out.new ≡ out.old ++ json_tokens (saving_json saving)) }
+{
+    match saving {
+        Saving::Taken(instance) => push_saved(out, "taken", instance),
+        Saving::Permanent(instance) => push_saved(out, "permanent", instance),
+        Saving::GivenUp(instance) => push_saved(out, "given_up", instance),
     }
 }
 

@@ -5,7 +5,8 @@ ghost use Rattle.std.specs.Prelude.{◌≡◌, ◌++◌, OnOk};
 ghost use Rattle.std.specs.List.{flat_map};
 ghost use Rattle.kt_tuple.specs.Spelling.{node_text};
 ghost use Rattle.kt_tell.specs.Words.{back_text, begun_text, from_down, ruling_text, saving_text, sent_text};
-ghost use Rattle.kt_tell.specs.Words.{services_text, tail_text, turn_text, undone_text};
+ghost use Rattle.kt_tell.specs.Words.{around, back_by, is_failure, many_text, services_text, tail_text, turn_text};
+ghost use Rattle.kt_tell.specs.Words.{undone_text, votes_verb};
 ghost use Rattle.std.specs.Option.{option_copied};
 
 use crate::heads::push_instance;
@@ -74,9 +75,26 @@ pub fn push_ruling(out: &mut Vec<u8>, ruling: Option<Ruling>) -> Result<(), Allo
 fn push_back(out: &mut Vec<u8>, step: Step, note: Option<&Note>) -> Result<(), AllocError>
     ensures { OnOk result (out.new.items ≡ out.old.items ++ back_text step (option_copied note.entry)) }
 {
-    match (step, note) {
-        (Step::Fail { .. }, _) | (_, None | Some(Note::Act(_))) => Ok(()),
-        (_, Some(Note::Cut { .. })) => out.extend_from_slice(b", goes back to its checkpoint"),
+    if is_failure(step) {
+        Ok(())
+    } else {
+        push_cut(out, note)
+    }
+}
+
+/// Whether the node fails.
+fn is_failure(step: Step) -> bool
+    ensures { result ≡ is_failure step }
+{
+    matches!(step, Step::Fail { .. })
+}
+
+fn push_cut(out: &mut Vec<u8>, note: Option<&Note>) -> Result<(), AllocError>
+    ensures { OnOk result (out.new.items ≡ out.old.items ++ back_by (option_copied note.entry)) }
+{
+    match note {
+        Some(Note::Cut { .. }) => out.extend_from_slice(b", goes back to its checkpoint"),
+        Some(Note::Act(_)) | None => Ok(()),
     }
 }
 
@@ -119,14 +137,19 @@ pub fn push_one(out: &mut Vec<u8>, to: NodeId, message: &Message) -> Result<(), 
         Message::App(_) => Ok(()),
         Message::CheckAsk(_) => push_around(out, b", asks ", to, b" for a checkpoint"),
         Message::RollAsk(_) => push_around(out, b", asks ", to, b" to roll back"),
-        Message::Vote(vote) => {
-            if vote.yes {
-                push_around(out, b", votes yes to ", to, b"")
-            } else {
-                push_around(out, b", votes no to ", to, b"")
-            }
-        }
+        Message::Vote(vote) => push_vote(out, to, vote.yes),
         Message::Verdict { .. } => push_around(out, b", tells ", to, b""),
+    }
+}
+
+/// How the node votes.
+fn push_vote(out: &mut Vec<u8>, to: NodeId, is_yes: bool) -> Result<(), AllocError>
+    ensures { OnOk result (out.new.items ≡ out.old.items ++ around (votes_verb is_yes) (node_text to)) }
+{
+    if is_yes {
+        push_around(out, b", votes yes to ", to, b"")
+    } else {
+        push_around(out, b", votes no to ", to, b"")
     }
 }
 
@@ -161,9 +184,17 @@ fn push_services(out: &mut Vec<u8>, undone: u64) -> Result<(), AllocError>
     ensures { OnOk result (out.new.items ≡ out.old.items ++ services_text undone) }
 {
     if undone == 1 {
-        return out.extend_from_slice(b", 1 service undone");
+        out.extend_from_slice(b", 1 service undone")
+    } else {
+        push_many(out, undone)
     }
+}
+
+fn push_many(out: &mut Vec<u8>, undone: u64) -> Result<(), AllocError>
+    ensures { OnOk result (out.new.items ≡ out.old.items ++ many_text undone) }
+{
     out.extend_from_slice(b", ")?;
     push_number(out, undone)?;
-    out.extend_from_slice(b" services undone")
+    out.extend_from_slice(b" services undone")?;
+    Ok(())
 }

@@ -3,19 +3,18 @@
 
 ghost use Rattle.std.specs.Prelude.{◌≡◌, IfErr, IfOk};
 ghost use Rattle.kt_tell.specs.Told.{EndsTrace, IsTold, IsUntold, end_by, end_of, form_text, told_text};
+ghost use Rattle.kt_tell.specs.auxiliary.Endings.{EndsTelling, EndsWriting};
 
 use crate::choice::Choice;
 use crate::lines::step_lines;
 use crate::rows_json::json_of;
 use crate::words::words_of;
-use kt_core::World;
 use kt_scenario::{Scene, Step};
 use kt_scene::{
     Observer, ReplayFault, Scenario, SceneFault, Sink, Source, WorkKind, read_scene, read_text,
     write_text,
 };
-use kt_store::MemStore;
-use kt_trace::{Traced, trace_on};
+use kt_trace::{Traced, trace_on, world_of};
 use std::alloc::{AllocError, Global};
 use std::io::{Read, Write};
 
@@ -30,7 +29,7 @@ pub enum Form {
 
 /// The bytes of a trace, and how the steps ended.
 #[derive(Debug, Drop)]
-struct Told {
+struct Telling {
     text: Vec<u8>,
     end: Result<(), ReplayFault>,
 }
@@ -50,13 +49,34 @@ pub fn write_trace<R: Read, W: Write, O: Observer>(
     ensures ends { EndsTrace form choice reader.old reader.new writer.old writer.new result }
 {
     match read_text(alloc, reader) {
-        Ok(text) => match told(alloc, &text, form, choice, observer) {
-            Ok(told) => match write_text(writer, &told.text) {
-                Ok(()) => told.end,
-                Err(fault) => Err(fault),
-            },
-            Err(fault) => Err(fault),
-        },
+        Ok(text) => write_told(alloc, &text, writer, form, choice, observer),
+        Err(fault) => Err(fault),
+    }
+}
+
+/// Writes the trace of the scenario that the text spells.
+fn write_told<W: Write, O: Observer>(
+    alloc: Global,
+    text: &[u8],
+    writer: &mut Sink<W>,
+    form: Form,
+    choice: Choice,
+    observer: &mut O,
+) -> Result<(), ReplayFault>
+    ensures { EndsTelling form choice text.now writer.old writer.new result }
+{
+    match told(alloc, text, form, choice, observer) {
+        Ok(telling) => write_telling(writer, telling),
+        Err(fault) => Err(fault),
+    }
+}
+
+/// Writes what is told, and answers how the steps ended.
+fn write_telling<W: Write>(writer: &mut Sink<W>, telling: Telling) -> Result<(), ReplayFault>
+    ensures { EndsWriting telling.text.items telling.end writer.old writer.new result }
+{
+    match write_text(writer, &telling.text) {
+        Ok(()) => telling.end,
         Err(fault) => Err(fault),
     }
 }
@@ -68,7 +88,7 @@ fn told<O: Observer>(
     form: Form,
     choice: Choice,
     observer: &mut O,
-) -> Result<Told, ReplayFault>
+) -> Result<Telling, ReplayFault>
     ensures told { IfOk result (λ told. IsTold form choice text.now told.text.items told.end) }
     ensures fault { IfErr result (IsUntold text.now) }
 {
@@ -97,15 +117,12 @@ fn tell<O: Observer>(
     form: Form,
     choice: Choice,
     observer: &mut O,
-) -> Result<Told, AllocError>
+) -> Result<Telling, AllocError>
     ensures text { IfOk result (λ told. told.text.items ≡ told_text form choice text.now scene steps.now) }
     ensures end { IfOk result (λ told. told.end ≡ end_of text.now scene steps.now) }
 {
     let lines = step_lines(alloc, text)?;
-    let mut world = match World::open(alloc, scene, MemStore::new(alloc)) {
-        Ok(world) => world,
-        Err(_) => return Err(AllocError),
-    };
+    let mut world = world_of(alloc, scene)?;
     let entries = trace_on(alloc, &mut world, steps, &lines)?;
     let end = ending(&entries);
     match end {
@@ -113,7 +130,7 @@ fn tell<O: Observer>(
         Err(fault) => observer.stopped(alloc, text, &world, steps, fault),
     }
     let text = form_text(alloc, form, &entries, choice)?;
-    Ok(Told { text, end })
+    Ok(Telling { text, end })
 }
 
 /// The entries that are chosen, in this form.

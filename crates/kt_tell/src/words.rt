@@ -3,19 +3,19 @@
 
 ghost use Rattle.std.specs.Prelude.{◌≡◌, ◌++◌, IfOk, OnOk};
 ghost use Rattle.kt_tell.specs.Chosen.{chosen_text, told};
-ghost use Rattle.kt_tell.specs.Words.{entry_line, made_line, refused_line, trace_text};
+ghost use Rattle.kt_tell.specs.Words.{cause_text, entry_line, made_line, refused_line, trace_text};
 
 use crate::choice::Choice;
 use crate::heads::push_head;
 use crate::names::refusal_name;
 use crate::tails::push_tail;
+use kt_model::StepError;
 use kt_text::push_step;
 use kt_trace::{Refused, Traced, TracedStep};
 use kt_tuple::writing::push_number;
 use std::alloc::{AllocError, Global};
 
 /// A line of words for each entry that is chosen, in order. `AllocError` where memory is wanting.
-#[tactic(auto, using(crate::proofs::Pieces::chosen_all))]
 pub fn words_of(alloc: Global, entries: &[Traced], choice: Choice) -> Result<Vec<u8>, AllocError>
     ensures text { IfOk result (λ text. text.items ≡ trace_text (told choice entries.now)) }
 {
@@ -66,9 +66,16 @@ fn push_refused(out: &mut Vec<u8>, refused: Refused) -> Result<(), AllocError>
     out.push(b' ')?;
     push_step(out, refused.step)?;
     out.extend_from_slice(b" is refused: ")?;
-    push_number(out, u64::from(refused.cause.number()))?;
-    out.push(b' ')?;
-    out.extend_from_slice(refusal_name(refused.cause).as_bytes())?;
+    push_cause(out, refused.cause)?;
     out.push(b'\n')?;
     Ok(())
+}
+
+/// The number and the name of the refusal.
+fn push_cause(out: &mut Vec<u8>, cause: StepError) -> Result<(), AllocError>
+    ensures { OnOk result (out.new.items ≡ out.old.items ++ cause_text cause) }
+{
+    push_number(out, u64::from(cause.number()))?;
+    out.push(b' ')?;
+    out.extend_from_slice(refusal_name(cause).as_bytes())
 }

@@ -1,6 +1,6 @@
 -- What a node sends: what is new on its links.
--- Cited by Stepped.
-use Rattle.std.proofs.Common.{◌≡◌, ℕ, suc, ◌+◌, List, [], ◌∷◌, ◌++◌, map, drop, drop-cons, length, slice_get, Some}
+-- Cited by Stepped, `ways::add_from`.
+use Rattle.std.proofs.Common.{◌≡◌, ℕ, zero, suc, ◌+◌, List, [], ◌∷◌, ◌++◌, map, drop, drop-cons, length, slice_get, None, Some}
 use Rattle.std.proofs.Common.{◌≤◌, sym, ap, ◌∙◌, arith, append_assoc, append-nil}
 use Rattle.std.proofs.lemmas.List.{drop_all}
 use Rattle.std.proofs.lemmas.List.Folds.{flat_map-map}
@@ -31,10 +31,22 @@ sent_more xs place m q old one new at first others =
     ∙ ap (λ (ys : List Message). old ++ map (from_sender q) ys) (sym (drop-some xs place m at))
 
 -- what is on a link behind so many, where there are no more
-pub sent_none : (xs : List Message) (place : ℕ) (q : NodeId) (old : List (NodeId × Message)) → length xs ≤ place
+sent_none : (xs : List Message) (place : ℕ) (q : NodeId) (old : List (NodeId × Message)) → length xs ≤ place
     → old ≡ old ++ map (from_sender q) (drop place xs)
 sent_none xs place q old few =
     sym (append-nil old) ∙ ap (λ (ys : List Message). old ++ map (from_sender q) ys) (sym (drop_all place xs few))
+
+-- nothing stands past the end
+past-end : {X : Type 0} (xs : List X) (i : ℕ) → slice_get xs i ≡ None → length xs ≤ i
+past-end [] i e = omega arith
+past-end (x ∷ xs) zero e = absurd (cc e)
+past-end (x ∷ xs) (suc i) e =
+    let few : length xs ≤ i = past-end xs i e in
+    omega (arith, few)
+
+pub sent_past : (xs : List Message) (place : ℕ) (q : NodeId) (old : List (NodeId × Message)) → slice_get xs place ≡ None
+    → old ≡ old ++ map (from_sender q) (drop place xs)
+sent_past xs place q old none = sent_none xs place q old (past-end xs place none)
 
 -- what was seen before a step gives the row of the step
 pub row_is : (number line : ℕ) (old : State) (step : Step) (new : State)

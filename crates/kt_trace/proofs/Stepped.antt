@@ -1,5 +1,5 @@
 -- A step that was made or refused, and its entry.
--- Cited by no other file of crates/.
+-- Cited by `tracing::trace_step`.
 use Rattle.std.proofs.Common.{◌≡◌, ℕ, false, Result, Ok, Err, sym, ap, ◌∙◌}
 use Rattle.kt_scenario.specs.declared.step.Step.{Step}
 use Rattle.kt_model.specs.declared.error.StepError.{StepError}

@@ -1,8 +1,13 @@
 //! A look at a world before a step, and what the step did to it.
 //! Cited by tracing.rt.
 
-ghost use Rattle.std.specs.Prelude.{◌≡◌, IfOk};
+ghost use Rattle.std.specs.Prelude.{◌≡◌, ◌==◌, ◌&&◌, IfOk};
+ghost use Rattle.std.specs.List.{find};
 ghost use Rattle.std.specs.Option.{option_copied};
+ghost use Rattle.kt_tuple.specs.Node.{node_eq};
+ghost use Rattle.kt_store.specs.Verdict.{is_open};
+ghost use Rattle.kt_store.specs.declared.rows.InstanceRow.{InstanceRow};
+ghost use Rattle.kt_store.specs.declared.rows.NodeRow.{NodeRow};
 ghost use Rattle.kt_trace.specs.Rows.{heard, mode_at, note_since, begun_since, open_instance, tentative_instance};
 ghost use Rattle.kt_trace.specs.Rows.{ruling_by, saving_by, verdict_at};
 ghost use Rattle.kt_trace.specs.auxiliary.Glimpses.{glimpse_of, row_from};
@@ -14,7 +19,7 @@ use kt_core::World;
 use kt_history::Note;
 use kt_scenario::Step;
 use kt_state::{Message, Mode};
-use kt_store::{MemStore, Verdict};
+use kt_store::{InstanceRow, MemStore, NodeRow, Verdict};
 use kt_tuple::NodeId;
 use std::alloc::{AllocError, Global};
 
@@ -158,7 +163,7 @@ fn begun_since(world: &World<MemStore>, instances: usize) -> Option<u64>
 fn tentative_instance(world: &World<MemStore>, node: NodeId) -> Option<u64>
     ensures { result ≡ tentative_instance world.now.state.content node }
 {
-    match world.store().rows().iter().find(|row| row.node == node) {
+    match row_at(world.store().rows(), node) {
         Some(row) => match &row.tentative {
             Some(tentative) => Some(tentative.instance),
             None => None,
@@ -167,34 +172,48 @@ fn tentative_instance(world: &World<MemStore>, node: NodeId) -> Option<u64>
     }
 }
 
+/// The node's row; `None` where nothing was stored of it.
+fn row_at(rows: &[NodeRow], node: NodeId) -> Option<&NodeRow>
+    ensures { option_copied result ≡ find (λ (row : NodeRow). node_eq row.node node) rows.now }
+{
+    rows.iter().find(|row| row.node == node)
+}
+
 /// The first instance that the node began and that has no verdict.
 fn open_instance(world: &World<MemStore>, node: NodeId) -> Option<u64>
     ensures { result ≡ open_instance world.now.state.content node }
 {
-    match world
-        .store()
-        .board()
-        .iter()
-        .find(|row| row.initiator == node && row.verdict.is_open())
-    {
+    match open_at(world.store().board(), node) {
         Some(row) => Some(row.instance),
         None => None,
     }
+}
+
+/// The row of that instance.
+fn open_at(board: &[InstanceRow], node: NodeId) -> Option<&InstanceRow>
+    ensures { option_copied result
+        ≡ find (λ (row : InstanceRow). node_eq row.initiator node && is_open row.verdict) board.now }
+{
+    board
+        .iter()
+        .find(|row| row.initiator == node && row.verdict.is_open())
 }
 
 /// The verdict on the instance: open where it was never begun.
 fn verdict_at(world: &World<MemStore>, instance: u64) -> Verdict
     ensures { result ≡ verdict_at world.now.state.content instance }
 {
-    match world
-        .store()
-        .board()
-        .iter()
-        .find(|row| row.instance == instance)
-    {
+    match instance_at(world.store().board(), instance) {
         Some(row) => row.verdict,
         None => Verdict::Open,
     }
+}
+
+/// What the board has of the instance; `None` where it was never begun.
+fn instance_at(board: &[InstanceRow], instance: u64) -> Option<&InstanceRow>
+    ensures { option_copied result ≡ find (λ (row : InstanceRow). row.instance == instance) board.now }
+{
+    board.iter().find(|row| row.instance == instance)
 }
 
 /// What became of the tentative checkpoint, whose instance was the one and is the other.

@@ -14,4 +14,4 @@ mod tracing;
 mod ways;
 
 pub use traced::{Refused, Ruling, Saving, Traced, TracedStep};
-pub use tracing::{trace, trace_on, trace_step};
+pub use tracing::{trace, trace_on, trace_step, world_of};

@@ -1,9 +1,11 @@
 //! Steps made one after the other, each with its row.
 //! Cited by other crates.
 
-ghost use Rattle.std.specs.Prelude.{◌≡◌, IfErr, IfOk, IsTrue, Ok, false};
+ghost use Rattle.std.specs.Prelude.{◌≡◌, IfErr, IfOk, IsTrue, Ok, OnErr, OnOk};
 ghost use Rattle.kt_model.specs.Effect.{step_result};
 ghost use Rattle.kt_model.specs.Reached.{next_state, opening};
+ghost use Rattle.kt_model.specs.StepPlan.{step_plan};
+ghost use Rattle.kt_core.specs.Stepping.{Refuses};
 ghost use Rattle.kt_trace.specs.Rows.{behind, entry_of, line_of, trace_from};
 ghost use Rattle.kt_trace.specs.auxiliary.Entries.{is_want};
 
@@ -30,12 +32,21 @@ pub fn trace(
     ensures entries { IfOk result (λ entries.
         entries.items ≡ trace_from lines.now 1 (opening scene) steps.now) }
 {
-    let mut world = match World::open(alloc, scene, MemStore::new(alloc)) {
-        Ok(world) => world,
+    let mut world = world_of(alloc, scene)?;
+    let entries = trace_on(alloc, &mut world, steps, lines)?;
+    Ok(entries)
+}
+
+/// A world of this scene over a store in memory, in which no step was made yet. `AllocError` where memory is wanting.
+pub fn world_of(alloc: Global, scene: Scene) -> Result<World<MemStore>, AllocError>
+    ensures state { IfOk result (λ world. world.state ≡ opening scene) }
+    ensures honest { IfOk result (λ world. IsTrue world.is_honest) }
+{
+    match World::open(alloc, scene, MemStore::new(alloc)) {
+        Ok(world) => Ok(world),
         // A fresh store in memory refuses for want of memory alone.
-        Err(_) => return Err(AllocError),
-    };
-    trace_on(alloc, &mut world, steps, lines)
+        Err(_) => Err(AllocError),
+    }
 }
 
 /// The trace of these steps from this world on, and the world behind those that were made.
@@ -90,8 +101,11 @@ pub fn trace_step(
     ensures next { IfOk result (λ _. world.new.state ≡ next_state world.old.state step) }
 {
     let before = Glimpse::of(alloc, world, step)?;
-    match world.step(alloc, step) {
-        Ok(()) => Ok(Traced::Made(before.row(alloc, world, number, line, step)?)),
+    match make(alloc, world, step) {
+        Ok(()) => {
+            let row = before.row(alloc, world, number, line, step)?;
+            Ok(Traced::Made(row))
+        }
         Err(cause) => {
             if is_want(cause) {
                 return Err(AllocError);
@@ -104,6 +118,17 @@ pub fn trace_step(
             }))
         }
     }
+}
+
+/// Makes the step. The world's store is in memory, and so the world stays honest.
+fn make(alloc: Global, world: &mut World<MemStore>, step: Step) -> Result<(), StepError>
+    requires honest { IsTrue world.old.is_honest }
+    ensures honest { IsTrue world.new.is_honest }
+    ensures made { OnOk result (step_result world.old.state step ≡ Ok world.new.state) }
+    ensures same { OnErr result (world.new.state ≡ world.old.state) }
+    ensures refusal { IfErr result (λ e. Refuses e (step_plan world.old.state step)) }
+{
+    world.step(alloc, step)
 }
 
 /// Whether a step was refused for want of memory. A store in memory refuses for nothing else.

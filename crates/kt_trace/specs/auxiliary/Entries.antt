@@ -1,5 +1,5 @@
 -- How the code goes on behind an entry.
--- Cited by Going, Refusals, Stepped, traced.rt, tracing.rt.
+-- Cited by Going, Refusals, Stepped, traced.rt, tracing.rt, `tracing::trace_on`.
 use Rattle.std.specs.Prelude.{Bool, true, false}
 use Rattle.kt_model.specs.declared.error.StepError.{StepError}
 use Rattle.kt_model.specs.declared.error.StepError.TheVariants as refusals

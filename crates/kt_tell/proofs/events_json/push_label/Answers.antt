@@ -10,6 +10,8 @@ pub returns : goal.returns
 returns c =
     then_more c.args.out.now (key (codes "label") ∷ []) _ c.key.new.self c.end_object.new.self c.in_ok-key.ensures
     (then_more c.key.new.self (begin_object ∷ []) _ c.begin_object.new.self c.end_object.new.self c.in_ok-begin_object.ensures
-    (then_more c.begin_object.new.self (key (codes "incarnation") ∷ json_tokens (count c.args.label.incarnation)) _ c.push_member.new.out c.end_object.new.self c.in_ok-push_member.ensures
-    (then_more c.push_member.new.out (key (codes "count") ∷ json_tokens (count c.args.label.count)) _ c.push_member-2.new.out c.end_object.new.self c.in_ok-push_member-2.ensures
+    (then_more c.begin_object.new.self (key (codes "incarnation") ∷ json_tokens (count c.args.label.incarnation)) _ c.push_member.new.out
+    c.end_object.new.self c.in_ok-push_member.ensures
+    (then_more c.push_member.new.out (key (codes "count") ∷ json_tokens (count c.args.label.count)) _ c.push_member-2.new.out c.end_object.new.self
+    c.in_ok-push_member-2.ensures
     c.in_ok-end_object.ensures)))

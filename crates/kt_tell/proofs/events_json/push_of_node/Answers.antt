@@ -8,6 +8,8 @@ use Rattle.kt_tell.proofs.events_json.push_of_node.Goals as goal
 
 pub returns : goal.returns
 returns c =
-    then_more c.args.out.now (begin_object ∷ key (codes "word") ∷ string (c.args.word.now) ∷ []) _ c.begin_worded.new.out c.end_object.new.self c.in_ok-begin_worded.ensures
-    (then_more c.begin_worded.new.out (key (codes "node") ∷ json_tokens (name_json c.args.node)) _ c.push_member.new.out c.end_object.new.self c.in_ok-push_member.ensures
+    then_more c.args.out.now (begin_object ∷ key (codes "word") ∷ string (c.args.word.now) ∷ []) _ c.begin_worded.new.out c.end_object.new.self
+    c.in_ok-begin_worded.ensures
+    (then_more c.begin_worded.new.out (key (codes "node") ∷ json_tokens (name_json c.args.node)) _ c.push_member.new.out c.end_object.new.self
+    c.in_ok-push_member.ensures
     c.in_ok-end_object.ensures)

@@ -9,5 +9,6 @@ use Rattle.kt_tell.proofs.rows_json.push_place.Goals as goal
 
 pub returns : goal.returns
 returns c =
-    then_more c.args.out.now (key (codes "number") ∷ json_tokens (count c.args.number)) _ c.push_member.new.out c.push_member-2.new.out c.in_ok-push_member.ensures
+    then_more c.args.out.now (key (codes "number") ∷ json_tokens (count c.args.number)) _ c.push_member.new.out c.push_member-2.new.out
+    c.in_ok-push_member.ensures
     (last_piece c.push_member.new.out c.push_member-2.new.out (key (codes "line") ∷ json_tokens (count c.args.line)) c.in_ok-push_member-2.ensures)
