@@ -1,3 +1,3 @@
 pub mod Added
 pub mod Changes
-pub mod Onward
+pub mod Watching

@@ -3,5 +3,4 @@ pub mod Json
 pub mod Splice
 pub mod Cells
 pub mod Drawing
-pub mod Watching
 pub mod auxiliary

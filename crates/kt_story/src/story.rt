@@ -59,24 +59,23 @@ impl Story {
     {
         let mut world = world_of(alloc, scene)?;
         let entries = trace_on(alloc, &mut world, steps, &[])?;
-        let mut rows = Vec::new(alloc);
-        let refused = split(&mut rows, entries)?;
-        let story = Story::ended(alloc, world, rows, refused)?;
+        let story = Story::told(alloc, world, entries)?;
         Ok(story)
     }
 
-    /// The story that ends in this world, to which the steps of these rows led, and the step that was refused there.
-    pub fn ended(
+    /// The story of which these entries tell, which ends in this world.
+    pub fn told(
         alloc: Global,
         world: World<MemStore>,
-        rows: Vec<TracedStep>,
-        refused: Option<Refused>,
+        entries: Vec<Traced>,
     ) -> Result<Story, AllocError>
         ensures state { IfOk result (λ story. story.state ≡ world.state) }
-        ensures rows { IfOk result (λ story. story.rows ≡ rows.items) }
-        ensures refused { IfOk result (λ story. story.refused ≡ refused) }
+        ensures rows { IfOk result (λ story. story.rows ≡ made_rows entries.items) }
+        ensures refused { IfOk result (λ story. story.refused ≡ last_refused None entries.items) }
     {
         let losses = losses(alloc, world.history())?;
+        let mut rows = Vec::new(alloc);
+        let refused = split(&mut rows, entries)?;
         Ok(Story {
             world,
             rows,
