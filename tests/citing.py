@@ -16,9 +16,6 @@ import textwrap
 
 from sources import CRATES, ROOT, files, text_of
 
-# Crates that show how others are used. They are no reason for a line: else an example more would change the files that
-# it shows, and all above them would have to be proved anew.
-EXAMPLES = {"kt_first_uses"}
 # Names of one crate in a line; of more the rest is counted.
 MOST = 24
 WIDTH = {".rt": 120, ".antt": 120}
@@ -259,7 +256,7 @@ def users_of(path):
     """Who relies on the file: files and functions of its crate, other crates, and the traits by which it is called."""
     crate, folder, module = all_files()[path]
     users = cited_sources()[path] if folder == "src" else cited_modules()[f"{crate}.{folder}.{module}"]
-    labels = {label(user, crate) for user in users} - (EXAMPLES - {crate})
+    labels = {label(user, crate) for user in users}
     others = [name for name in CRATES if name in labels and name != crate]
     own = sorted(labels - set(others), key=lambda name: (name.startswith("`"), name))
     traits = sorted(methods_of(path)[1]) if folder == "src" else []

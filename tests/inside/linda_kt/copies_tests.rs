@@ -2,6 +2,7 @@
 //! Cited by no other file of crates/.
 use crate::copies::{ShowError, StoreCopy};
 use crate::files::Files;
+use crate::holding::Holds;
 use kt_command::Shows;
 use kt_sql::{SqlOpenError, SqlStore};
 use kt_store::CkptStore;
@@ -26,7 +27,7 @@ fn leave_behind(rt: &HostRuntime, path: &str) -> Result<Vec<NodeId>, Fail> {
 
 /// The nodes that have a row in a copy of the store.
 fn nodes_in_copy(rt: &HostRuntime, path: &str) -> Result<Vec<NodeId>, Fail> {
-    let mut store = Files::new(rt).open_copy(path)?;
+    let mut store = Files::new(rt).open_copy(path)?.into_store();
     Ok(store.nodes(rt.alloc())?)
 }
 

@@ -1,15 +1,18 @@
 //! The program from its words to its output, its line on the errors and its status.
-use crate::files::Files;
+use crate::copies::ShowError;
+use crate::files::{Files, OldFile, StoreInFile};
+use crate::holding::Holding;
 use crate::program::run_program;
 use kt_command::{Terminals, end_replay};
 use kt_scene::{OpenError, ReplayFault, Sink, Source, StepError};
 use kt_store::StoreError;
-use std::io;
+use sqlite::{File, FileStore};
 use std::io::{ErrorKind, Read, Write};
 use std::process::Abort;
 use std::sync::Wait;
 use std::test::Fail;
 use std::thread::Threads;
+use std::{fs, io};
 
 pub const PUT_AND_TAKE: &str =
     "linda-kt 1\nshards 1\nworker\nout (\"a\", 1)\nin (\"a\", ?int x)\nsteps\n\
@@ -81,8 +84,8 @@ fn run_with<T: Threads + Wait + Sync, R: Read, W: Write, E: Write>(
     writer: &mut Sink<W>,
     errors: &mut E,
 ) -> u8 {
-    let opener = Files::new(rt);
-    run_program(
+    let opener = Holding::<Files<'_>, StoreInFile>::new(Files::new(rt));
+    run_program::<FileStore<File>, OldFile, ShowError, fs::File, io::Error, _, T, R, W, E>(
         opener,
         threads,
         rt.alloc(),

@@ -60,7 +60,7 @@ fn says_what_a_text_is(rt: HostRuntime) -> Result<(), Fail> {
         (FAILS_AFTER_YES, "steps 13\n", "", 0),
         (NO_FAULTS, "faults 0\n", "", 0),
         (
-            "linda-kt 1\nshards 1\nworker\nout (\"a\", 1)\nsteps\nissue w2\nend\n",
+            "linda-kt 1\nshards 1\nworker\nout (\"a\", 1)\nsteps\nissue q1\nend\n",
             "",
             "line 6: ",
             3,

@@ -1,5 +1,4 @@
 //! A first use of kt_core.
-//! Cited by no other file of crates/.
 
 use kt_core::{Step, World};
 use kt_scene::{WorkKind, read_scene};

@@ -1,5 +1,4 @@
 //! A first use of kt_store.
-//! Cited by no other file of crates/.
 
 use kt_store::{CkptStore, MemStore};
 use kt_tuple::NodeId;

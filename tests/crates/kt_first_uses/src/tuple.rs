@@ -1,5 +1,4 @@
 //! A first use of kt_tuple.
-//! Cited by no other file of crates/.
 
 use kt_tuple::{Template, Tuple};
 use std::alloc::Global;

@@ -1,5 +1,4 @@
 //! A first use of kt_history.
-//! Cited by no other file of crates/.
 
 use kt_history::{Act, History, Note, What};
 use kt_tuple::{Answer, NodeId, Op, Tuple};

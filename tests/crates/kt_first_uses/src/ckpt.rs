@@ -1,5 +1,4 @@
 //! A first use of kt_ckpt.
-//! Cited by no other file of crates/.
 
 use kt_ckpt::Ckpt;
 use std::alloc::Global;

@@ -1,5 +1,4 @@
 //! A first use of kt_script.
-//! Cited by no other file of crates/.
 
 use kt_script::{Command, Env, Operation, Pattern, Script, Slot};
 use kt_tuple::{Kind, Op};

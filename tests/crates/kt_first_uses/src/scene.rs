@@ -1,5 +1,4 @@
 //! A first use of kt_scene.
-//! Cited by no other file of crates/.
 
 use kt_scene::{Sink, Source, replay};
 use kt_store::MemStore;

@@ -1,5 +1,4 @@
 //! A first use of kt_space.
-//! Cited by no other file of crates/.
 
 use kt_space::Bag;
 use kt_tuple::{Template, Tuple};
