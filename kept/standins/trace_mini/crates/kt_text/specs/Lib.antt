@@ -1,0 +1,12 @@
+pub mod Number
+pub mod Steps
+pub mod Commands
+pub mod FaultLines
+pub mod FaultNumber
+pub mod Work
+pub mod Lines
+pub mod Reading
+pub mod Text
+pub mod Scenario
+pub mod Faults
+pub mod auxiliary

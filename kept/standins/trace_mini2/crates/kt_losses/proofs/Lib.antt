@@ -1,0 +1,5 @@
+pub mod Wholes
+pub mod Steps
+pub mod Kept
+pub mod Found
+pub mod Rising
