@@ -13,6 +13,7 @@
 //!   `script.rt` are constant text.
 #![tactic(auto)]
 
+mod adding;
 mod cells;
 mod drawing;
 mod fate;

@@ -4,6 +4,7 @@
 ghost use Rattle.std.specs.Prelude.{◌≡◌, IfOk, IsTrue, []};
 ghost use Rattle.kt_model.specs.Reached.{opening};
 ghost use Rattle.kt_trace.specs.Rows.{behind, trace_from};
+ghost use Rattle.kt_trace.specs.auxiliary.Entries.{is_end};
 ghost use Rattle.kt_story.specs.Story.{IsStoryOf};
 ghost use Rattle.kt_page.specs.Cells.{cells_of};
 ghost use Rattle.kt_page.specs.Splice.{cells_text};
@@ -93,7 +94,7 @@ fn watch_steps(
     for (place, step) in steps.iter().enumerate() {
         let number = place as u64 + 1;
         let entry = trace_step(alloc, world, number, 0, *step)?;
-        let is_end = entry.is_end();
+        let is_end = ends(&entry);
         entries.push(entry)?;
         if is_end {
             if first > number {
@@ -109,4 +110,14 @@ fn watch_steps(
         changes.note(alloc, world)?;
     }
     Ok(entries)
+}
+
+/// Whether the trace ends with the entry.
+fn ends(entry: &Traced) -> bool
+    ensures { result ≡ is_end entry.now }
+{
+    match entry {
+        Traced::Made(_) => false,
+        Traced::Refused(_) => true,
+    }
 }

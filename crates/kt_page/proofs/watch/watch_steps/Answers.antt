@@ -21,7 +21,7 @@ loop-place-preserved c =
     let step : Step = get_or steps i (Issue (Worker 0)) in
     let within : i < length steps = omega arith in
     let at : step ≡ get_or steps i step = get_or_default steps i (Issue (Worker 0)) step within in
-    let more : is_end entry ≡ false = sym c.is_end-is_end.ensures ∙ c.if-is_end.false in
+    let more : is_end entry ≡ false = sym c.ends-is_end.ensures ∙ c.if-is_end.false in
     record {
       honest = c.in_ok-entry.ensures.honest;
       so_far = ap (λ (xs : List Traced). xs ++ trace_from lines (i + 1 + 1) new (drop (i + 1) steps)) c.in_ok-push.ensures.items
@@ -42,7 +42,7 @@ returns-then-is_end c =
     let step : Step = get_or steps i (Issue (Worker 0)) in
     let within : i < length steps = omega arith in
     let at : step ≡ get_or steps i step = get_or_default steps i (Issue (Worker 0)) step within in
-    let end : is_end entry ≡ true = sym c.is_end-is_end.ensures ∙ c.if-is_end.true in
+    let end : is_end entry ≡ true = sym c.ends-is_end.ensures ∙ c.if-is_end.true in
     record {
       entries = c.in_ok-push.ensures.items
           ∙ traced_last lines i 0 s steps step entry c.loop-place.entries.items _ within at (no_line i)
