@@ -2,8 +2,8 @@
 
 from on_program.starting import CLOSED, FOLDER, FULL, NOBODY, ROOT, Starts, scenario, start, tell
 from on_program.texts import (
-    AGAIN, ANSWERED_AGAIN, A_SHARD_FAILS, BAG_OF_TASKS, CHECKPOINT_OF_TWO, HEAD, HELP, HELP_OF_MIGRATE,
-    HELP_OF_REPLAY, HELP_OF_RESUME, HELP_OF_RUN, LOST, NINE, NOBODY_FAILS, NO_STEPS, ONE_OF_NINE, ONE_OF_SIXTEEN,
+    AGAIN, ANSWERED_AGAIN, A_SHARD_FAILS, BAG_OF_TASKS, CHECKPOINT_OF_TWO, HEAD, HELP, HELPS,
+    HELP_OF_REPLAY, HELP_OF_RUN, LOST, NINE, NOBODY_FAILS, NO_STEPS, ONE_OF_NINE, ONE_OF_SIXTEEN,
     ONE_PUT, PUT_AND_TAKE, REFUSED_NINTH, SHARD_FAILS, SHARD_OF_SIGNATURE, SIXTEEN, THREE_PUT, THREE_SHARDS,
     THREE_TRUTHS, TO_FAILURE, TO_SHARD, TRUTHS, TWO_TAKERS, UNLESS_SKIPS, UNRESOLVED, VERSION, crowd, putting,
 )
@@ -94,10 +94,10 @@ CASES = [
     # the command line
     ("help", ["--help"], b"", HELP, b"", 0),
     ("short help", ["-h"], b"", HELP, b"", 0),
+    ("help as a word", ["help"], b"", HELP, b"", 0),
     ("help of a command", ["replay", "--help"], b"", HELP_OF_REPLAY, b"", 0),
-    ("help of the other", ["run", "-h"], b"", HELP_OF_RUN, b"", 0),
-    ("help of the third", ["resume", "--help"], b"", HELP_OF_RESUME, b"", 0),
-    ("help of the fourth", ["migrate", "--help"], b"", HELP_OF_MIGRATE, b"", 0),
+    ("short help of a command", ["run", "-h"], b"", HELP_OF_RUN, b"", 0),
+    ("help of a word that is none", ["help", "walk"], b"", b"", Starts("error: unrecognized subcommand 'walk'"), 2),
     ("version", ["--version"], b"", VERSION, b"", 0),
     ("short version", ["-V"], b"", VERSION, b"", 0),
     ("version to a full output", ["--version"], b"", FULL, b"write\n", 7),
@@ -110,6 +110,15 @@ CASES = [
      Starts("error: the argument '--store <FILE>' cannot be used multiple times"), 2),
     ("an unknown flag of the command", ["replay", "--journal"], b"", b"",
      Starts("error: unexpected argument '--journal' found"), 2),
+    ("a store to show, but which", ["show"], b"", b"",
+     Starts("error: the following required arguments were not provided:"), 2),
+    ("a flag that is none of show", ["show", "a.db", "--explain"], b"", b"",
+     Starts("error: unexpected argument '--explain' found"), 2),
+    ("a flag that is none of complete", ["complete", "--explain"], b"", b"",
+     Starts("error: unexpected argument '--explain' found"), 2),
+    ("a store for a check", ["check", "--store", "a.db"], b"", b"",
+     Starts("error: unexpected argument '--store' found"), 2),
+    ("a word behind manual", ["manual", "replay"], b"", b"", Starts("error: unexpected argument 'replay' found"), 2),
     ("a file that is to be carried over, but which", ["migrate"], b"", b"",
      Starts("error: the following required arguments were not provided:"), 2),
     ("a file to go on from, but which", ["resume"], b"", b"",
@@ -124,7 +133,7 @@ CASES = [
      Starts("error: unexpected argument '--journal' found"), 2),
     ("a flag twice", ["run", "--journal", "--journal"], b"", b"",
      Starts("error: the argument '--journal' cannot be used multiple times"), 2),
-    ("a word too many", ["replay", "more"], b"", b"", Starts("error: unexpected argument 'more' found"), 2),
+    ("a word too many", ["replay", "one", "more"], b"", b"", Starts("error: unexpected argument 'more' found"), 2),
     ("a word that is no text", [b"\xff"], b"", b"",
      Starts("error: invalid UTF-8 was detected in one or more arguments"), 2),
     ("an empty word", [""], b"", b"", Starts("error: unrecognized subcommand ''"), 2),
@@ -135,3 +144,6 @@ def table():
     for name, words, given, wanted, errors, status in CASES:
         got = start(words, given, wanted)
         yield tell(name, (None if isinstance(wanted, str) else wanted, errors, status), got)
+    for command, text in HELPS.items():
+        yield tell(f"help of {command}", (text, b"", 0), start([command, "--help"], b"", b""))
+        yield tell(f"help of {command} as a word", (text, b"", 0), start(["help", command], b"", b""))

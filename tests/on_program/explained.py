@@ -134,7 +134,9 @@ def explained():
     yield from mistakes()
     yield from refused_steps()
     yield from refused_stores()
-    said = b"standard input could not be read: is it a folder, or closed? Give a file, as in `linda_kt run < FILE`"
-    wanted = b"read\n  " + said + b"\n"
+    wanted = b"read\n  the scenario could not be read: is it a folder, or was standard input closed?\n"
     yield tell("explained: a folder as standard input", (b"", wanted, 7), start(["replay", "--explain"], FOLDER, b""))
-    yield tell("a scenario without a fault", start(["replay"], SCENE + b"end\n", b""), start(["replay", "--explain"], SCENE + b"end\n", b""))
+    plain = start(["replay"], SCENE + b"end\n", b"")
+    said = b"  w1 did not ask for its next operation\n  no service was lost\n"
+    got = start(["replay", "--explain"], SCENE + b"end\n", b"")
+    yield tell("a scenario without a fault: the same report", (plain[0], said, 0), got)

@@ -1,6 +1,7 @@
 """What docs/FORMATS.md shows is read and written so."""
 
 import re
+import tempfile
 
 from on_program.starting import ROOT, report, start, tell, told
 
@@ -119,14 +120,32 @@ def mistakes(page, scenario):
     yield told("the page's mistakes are as many", len(MISTAKES), len(rows))
 
 
+def shown_texts(blocks):
+    """What the page shows of explanations and of a store: the texts as they stand, JSON without the breaks of its
+    lines. A store's JSON has no line feed behind it."""
+    summary, shown = (inside.encode() for language, inside in blocks if language == "text")
+    explained, content = (inside.replace("\n", "").encode() for language, inside in blocks if language == "json")
+    failed = start(["replay", "--explain", f"{ROOT}/scenarios/shard_fails.scn"], b"", b"")
+    yield told("the page's explanation of a report", (summary, 0), failed[1:])
+    refused = b'linda-kt 1\nshards 1\nworker\nout ("a", 1)\nsteps\nissue w1\nserve s1 w1 0\nend\n'
+    line = b"step 2: 3 NothingThere\n"
+    yield tell("the page's JSON", (b"", line + explained + b"\n", 4), start(["replay", "--json"], refused, b""))
+    with tempfile.TemporaryDirectory() as folder:
+        store = f"{folder}/space.db"
+        start(["replay", "--store", store, f"{ROOT}/scenarios/checkpoint_of_two.scn"], b"", b"")
+        yield tell("the page's store", (shown, b"", 0), start(["show", store], b"", b""))
+        yield tell("the page's store as JSON", (content, b"", 0), start(["show", "--json", store], b"", b""))
+
+
 def formats_page():
     """What docs/FORMATS.md shows is read and written so."""
     with open(f"{ROOT}/docs/FORMATS.md", encoding="utf-8") as file:
         page = file.read()
     # Blocks of a language, as the statements in SQL, are no input.
     blocks = re.findall(r"^```(\w*)\n(.*?)^```$", page, re.MULTILINE | re.DOTALL)
-    script, text, written, journal = (inside for language, inside in blocks if not language)
+    script, text, written, journal, *_ = (inside for language, inside in blocks if not language)
     yield tell("the page's scenario", (written.encode(), b"", 0), start(["replay"], text.encode(), b""))
+    yield from shown_texts(blocks)
     remarks = "".join(line[2:] for line in journal.splitlines(True) if line.startswith("# "))
     yield tell("the page's journal", (remarks.encode(), b"", 0), start(["replay"], journal.encode(), b""))
     counting = f"{WORKER}{script}{COUNTER_STEPS}".encode()

@@ -3,6 +3,7 @@
 import os
 import subprocess
 import sys
+import time
 
 ROOT = os.path.dirname(os.path.dirname(os.path.dirname(os.path.realpath(__file__))))
 LAUNCHER = f"{ROOT}/linda_kt"
@@ -94,6 +95,21 @@ def start(words, given, wanted, program=PROGRAM, folder=None):
         ran.communicate()
         return None, b"it did not end", None
     return said, errors, ran.returncode
+
+
+def killed(words, text, seconds):
+    """Kills the command after so long, and says whether it still ran."""
+    ran = subprocess.Popen([PROGRAM, *words], stdin=PIPE, stdout=subprocess.DEVNULL, stderr=subprocess.DEVNULL)
+    try:
+        ran.stdin.write(text.encode())
+        ran.stdin.close()
+    except BrokenPipeError:
+        pass
+    time.sleep(seconds)
+    is_running = ran.poll() is None
+    ran.kill()
+    ran.wait()
+    return is_running
 
 
 def tell(name, want, got):

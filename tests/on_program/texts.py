@@ -163,63 +163,159 @@ HELP = report(
     "Usage: linda_kt <COMMAND>",
     "",
     "Commands:",
-    "  replay   Makes the steps of the scenario on standard input and writes the report to standard output",
-    "  run      Runs the scenario on standard input, by a thread for each node, and writes the report to standard"
+    "  replay      Makes the steps of the scenario and writes the report to standard output",
+    "  run         Runs the scenario, by a thread for each node, and writes the report to standard output;"
+    " `fail s1 after 3` counts the steps of s1 alone",
+    "  resume      Goes on from a store after the program was stopped: makes the steps of the scenario and writes the"
+    " report to standard output",
+    "  migrate     Carries a store of version 1 over, by the journal that made it, and writes the report to standard"
     " output",
-    "  resume   Goes on from a store after the program was stopped: makes the steps of the scenario on standard input and"
-    " writes the report to standard output",
-    "  migrate  Carries a store of version 1 over, by the journal on standard input that made it, and writes the report"
-    " to standard output",
+    "  check       Reads the scenario and does nothing: says of how many steps or fault lines it is, or which fault it"
+    " has",
+    "  complete    Writes the scenario with the steps behind its own that bring it to its end",
+    "  show        Writes what a store holds: the checkpoints of each node, and the board",
+    "  explain     Says what a number or a name means that is printed where something fails",
+    "  completion  Writes a script by which a shell completes the words of this program",
+    "  manual      Writes the manual page, for man",
+    "  help        Print this message or the help of the given subcommand(s)",
     "",
     "Options:",
     "  -h, --help     Print help",
     "  -V, --version  Print version",
 )
+ARGUMENTS = (
+    "Arguments:",
+    "  [SCENARIO]  The file with the scenario; standard input where it is - or left out",
+    "",
+)
 HELP_OF_REPLAY = report(
-    "Makes the steps of the scenario on standard input and writes the report to standard output",
+    "Makes the steps of the scenario and writes the report to standard output",
     "",
-    "Usage: linda_kt replay [OPTIONS]",
+    "Usage: linda_kt replay [OPTIONS] [SCENARIO]",
     "",
+    *ARGUMENTS,
     "Options:",
     "      --store <FILE>  Keeps the checkpoints in FILE, which is absent, empty or a fresh store",
-    "      --explain       Says behind the line of a fault why it came; on a terminal that is so without the flag",
+    "      --explain       Says behind the line of a fault why it came, as on a terminal without the flag, and behind a"
+    " report what it came to",
+    "      --json          Says what --explain says as one JSON object on a line",
     "  -h, --help          Print help",
 )
 HELP_OF_RUN = report(
-    "Runs the scenario on standard input, by a thread for each node, and writes the report to standard output",
+    "Runs the scenario, by a thread for each node, and writes the report to standard output; `fail s1 after 3` counts"
+    " the steps of s1 alone",
     "",
-    "Usage: linda_kt run [OPTIONS]",
+    "Usage: linda_kt run [OPTIONS] [SCENARIO]",
     "",
+    *ARGUMENTS,
     "Options:",
     "      --store <FILE>  Keeps the checkpoints in FILE, which is absent, empty or a fresh store",
     "      --journal       Writes the report as remarks, and then the steps that were made, as a scenario for replay or"
     " resume",
     "      --resume        Goes on from what FILE holds, after the program was stopped; it need not be fresh then",
-    "      --explain       Says behind the line of a fault why it came; on a terminal that is so without the flag",
+    "      --times <N>     Runs the scenario N times, from 1 to 10000, each time over a store of its own in memory, and writes"
+    " each different report once, behind how often it came",
+    "      --chaos <N>     Adds N random fault lines, from 1 to 10000, and writes each of them as a remark before the report, so"
+    " that it can be kept; wants --seed",
+    "      --seed <K>      Which fault lines --chaos adds: for one number and one scene always the same ones",
+    "      --explain       Says behind the line of a fault why it came, as on a terminal without the flag, and behind a"
+    " report what it came to",
+    "      --json          Says what --explain says as one JSON object on a line",
     "  -h, --help          Print help",
 )
 HELP_OF_RESUME = report(
-    "Goes on from a store after the program was stopped: makes the steps of the scenario on standard input and writes"
-    " the report to standard output",
+    "Goes on from a store after the program was stopped: makes the steps of the scenario and writes the report to"
+    " standard output",
     "",
-    "Usage: linda_kt resume [OPTIONS] --store <FILE>",
+    "Usage: linda_kt resume [OPTIONS] --store <FILE> [SCENARIO]",
     "",
+    *ARGUMENTS,
     "Options:",
     "      --store <FILE>  The store to go on from; one that is absent, empty or fresh was stopped before its first"
     " write",
-    "      --explain       Says behind the line of a fault why it came; on a terminal that is so without the flag",
+    "      --explain       Says behind the line of a fault why it came, as on a terminal without the flag, and behind a"
+    " report what it came to",
+    "      --json          Says what --explain says as one JSON object on a line",
     "  -h, --help          Print help",
 )
 HELP_OF_MIGRATE = report(
-    "Carries a store of version 1 over, by the journal on standard input that made it, and writes the report to"
-    " standard output",
+    "Carries a store of version 1 over, by the journal that made it, and writes the report to standard output",
     "",
-    "Usage: linda_kt migrate --store <FILE>",
+    "Usage: linda_kt migrate --store <FILE> [SCENARIO]",
     "",
+    *ARGUMENTS,
     "Options:",
     "      --store <FILE>  The store of version 1, which holds what the journal makes and nothing else",
     "  -h, --help          Print help",
 )
+HELP_OF_CHECK = report(
+    "Reads the scenario and does nothing: says of how many steps or fault lines it is, or which fault it has",
+    "",
+    "Usage: linda_kt check [OPTIONS] [SCENARIO]",
+    "",
+    *ARGUMENTS,
+    "Options:",
+    "      --explain  Says behind the line of a fault why it came, as on a terminal without the flag, and behind a"
+    " report what it came to",
+    "      --json     Says what --explain says as one JSON object on a line",
+    "  -h, --help     Print help",
+)
+HELP_OF_COMPLETE = report(
+    "Writes the scenario with the steps behind its own that bring it to its end",
+    "",
+    "Usage: linda_kt complete [SCENARIO]",
+    "",
+    *ARGUMENTS,
+    "Options:",
+    "  -h, --help  Print help",
+)
+HELP_OF_SHOW = report(
+    "Writes what a store holds: the checkpoints of each node, and the board",
+    "",
+    "Usage: linda_kt show [OPTIONS] <FILE>",
+    "",
+    "Arguments:",
+    "  <FILE>  The store",
+    "",
+    "Options:",
+    "      --json  Writes what the store holds as JSON",
+    "  -h, --help  Print help",
+)
+HELP_OF_EXPLAIN = report(
+    "Says what a number or a name means that is printed where something fails",
+    "",
+    "Usage: linda_kt explain <NUMBER>",
+    "",
+    "Arguments:",
+    "  <NUMBER>  The number or the name, as in `line 4: 3 Tuple`, or the exit status",
+    "",
+    "Options:",
+    "  -h, --help  Print help",
+)
+HELP_OF_COMPLETION = report(
+    "Writes a script by which a shell completes the words of this program",
+    "",
+    "Usage: linda_kt completion <SHELL>",
+    "",
+    "Arguments:",
+    "  <SHELL>  The shell",
+    "",
+    "Options:",
+    "  -h, --help  Print help",
+)
+HELP_OF_MANUAL = report(
+    "Writes the manual page, for man",
+    "",
+    "Usage: linda_kt manual",
+    "",
+    "Options:",
+    "  -h, --help  Print help",
+)
+HELPS = {
+    "replay": HELP_OF_REPLAY, "run": HELP_OF_RUN, "resume": HELP_OF_RESUME, "migrate": HELP_OF_MIGRATE,
+    "check": HELP_OF_CHECK, "complete": HELP_OF_COMPLETE, "show": HELP_OF_SHOW, "explain": HELP_OF_EXPLAIN,
+    "completion": HELP_OF_COMPLETION, "manual": HELP_OF_MANUAL,
+}
 VERSION = report("linda_kt 0.1.0")
 AGAIN = b"repeat w1\n"
 

@@ -3,9 +3,22 @@
 use Rattle.std.specs.Prelude.{option_map}
 use Rattle.kt_command.specs.declared.request.Request.{Request}
 use Rattle.kt_command.specs.declared.request.Request.TheVariants as requests
-use Rattle.kt_command.specs.Command.{Asked, Carries, Makes}
+use Rattle.kt_command.specs.declared.request.Task.{Task}
+use Rattle.kt_command.specs.declared.request.Task.TheVariants as tasks
+use Rattle.kt_command.specs.Command.{Asked, Carries, Checks, Completes, Done, Explains, Makes, Prompts, Reads}
+use Rattle.kt_command.specs.Command.{Repeats, Shows, Teaches}
 
--- a command, the file of its store, and whether its fault is explained; or the file that is to be carried over
+-- what is done with a scenario
+abbrev pub task_of : Task → Done
+task_of (tasks.Make command store) = Makes command (option_map (λ s. s.now) store)
+task_of (tasks.Repeat times) = Repeats times
+task_of (tasks.Migrate store) = Carries store.now
+task_of tasks.Check = Checks
+task_of tasks.Complete = Completes
+
 abbrev pub asked : Request → Asked
-asked (requests.Make command store is_explained) = Makes command (option_map (λ s. s.now) store) is_explained
-asked (requests.Migrate store) = Carries store.now
+asked (requests.Read task file telling) = Reads (task_of task) (option_map (λ s. s.now) file) telling
+asked (requests.Show store is_json) = Shows store.now is_json
+asked (requests.Explain word) = Explains word.now
+asked (requests.Completion shell) = Prompts shell
+asked requests.Manual = Teaches

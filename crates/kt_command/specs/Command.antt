@@ -1,6 +1,6 @@
 -- The names of the commands, and the words of a process.
--- Cited by carries.rt, command.rt, opens.rt, specs/Asking, specs/Carried, specs/Opened, words.rt,
---   `words::words_behind`; other crates.
+-- Cited by carries.rt, command.rt, opens.rt, shows.rt, specs/Asking, specs/Carried, specs/Opened, specs/Shown,
+--   specs/Silence, texts.rt, words.rt, `words::words_behind`; other crates.
 use Rattle.std.specs.Prelude.{ℕ, Bool, true, false, if◌then◌else◌, nat_eq, List, Option, None, Some, codes, map, String}
 use Rattle.std.specs.Prelude.{string_bytes, drop}
 use Rattle.std.specs.Borrow.{Bor}
@@ -10,8 +10,11 @@ use Rattle.kt_run.specs.declared.running.Output.{Output}
 use Rattle.kt_run.specs.declared.running.Output.TheVariants as outputs
 use Rattle.kt_core.specs.declared.start.Start.{Start}
 pub use Rattle.kt_core.specs.declared.start.Start.TheVariants.{Open, Resume}
+use Rattle.kt_words.specs.declared.shell.Shell.{Shell}
 use Rattle.kt_command.specs.declared.command.Command.{Command}
-use Rattle.kt_command.specs.declared.command.Command.TheVariants.{Replay, Run}
+use Rattle.kt_command.specs.declared.request.Telling.{Telling}
+use Rattle.kt_command.specs.declared.command.Command.TheVariants.{Replay, Run, RunChaos}
+use Rattle.kt_chaos.specs.declared.drawing.Chaos.{Chaos}
 
 -- the bytes of a word, or of a path
 abbrev pub Text : Type 0
@@ -39,11 +42,29 @@ command_of word is_resumed has_journal =
     else if is_word word (codes "run") then Some (Run (start_of is_resumed) (output_of has_journal))
     else None
 
--- what a program is asked to do: a command, over the store in a file or in memory, with its fault explained or not; or
--- to carry the store in a file over
+-- the command with these random fault lines: a run has them, and no other command
+abbrev pub with_chaos : Option Chaos → Command → Command
+with_chaos (Some chaos) (Run start output) = RunChaos start output chaos
+with_chaos chaos command = command
+
+-- what is done with a scenario: a command over the store in a file or in memory; so many runs, each over a store of its
+-- own in memory; the store in a file is carried over; it is read, and nothing else; or it is completed
+pub data Done : Type 0 where
+  Makes : Command → Option Text → Done
+  Repeats : (times : ℕ) → Done
+  Carries : Text → Done
+  Checks : Done
+  Completes : Done
+
+-- what a program is asked to do: something with the scenario in a file or on standard input, explained so; to say
+-- what a store in a file holds, in words or as JSON; to say what a word means; to write the words of a shell's
+-- completion, or the manual's page
 pub data Asked : Type 0 where
-  Makes : Command → Option Text → (is_explained : Bool) → Asked
-  Carries : Text → Asked
+  Reads : Done → (file : Option Text) → Telling → Asked
+  Shows : (path : Text) → (is_json : Bool) → Asked
+  Explains : (word : Text) → Asked
+  Prompts : Shell → Asked
+  Teaches : Asked
 
 -- the texts behind references
 abbrev pub texts : List (Bor Text) → List Text

@@ -3,4 +3,12 @@ pub mod Status
 pub mod Answers
 pub mod Asking
 pub mod Carried
+pub mod Repeated
 pub mod Opened
+pub mod Checked
+pub mod Meant
+pub mod OverText
+pub mod Silence
+pub mod Completed
+pub mod Printed
+pub mod Shown

@@ -1,6 +1,6 @@
 -- How a command ends.
--- Cited by Carryings, Statuses, running.rt, specs/Answers, specs/Carried, specs/Opened, status.rt,
---   `carrying::carry_connected`; other crates.
+-- Cited by Carryings, Checkings, Completions, Printings, Statuses, running.rt, specs/Answers, specs/Carried,
+--   specs/Checked, specs/Completed, specs/Opened, specs/Repeated, status.rt, `carrying::carry_connected`; other crates.
 use Rattle.std.specs.Prelude.{◌≡◌, ℕ, true}
 use Rattle.kt_store.specs.Content.{empty_content}
 use Rattle.kt_store.specs.Stored.{Stored}
@@ -27,7 +27,9 @@ use Rattle.kt_run.specs.declared.fault.RunTextFault.TheVariants as texts
 use Rattle.kt_run.specs.declared.running.Output.{Output}
 use Rattle.kt_run.specs.Run.{IsRunTextFault, WritesRun, WritesRunFront}
 use Rattle.kt_command.specs.declared.command.Command.{Command}
-use Rattle.kt_command.specs.declared.command.Command.TheVariants.{Replay, Run}
+use Rattle.kt_command.specs.declared.command.Command.TheVariants.{Replay, Run, RunChaos}
+use Rattle.kt_chaos.specs.declared.drawing.Chaos.{Chaos}
+use Rattle.kt_trials.specs.Chaos.{IsChaosFault, WritesChaos, WritesChaosFront}
 
 -- 3 for a fault of the scenario, but 6 where memory ran out
 abbrev pub scene_status : SceneError → ℕ
@@ -88,28 +90,40 @@ pub data EndsOver (start : Start) (was left : StoreValue) (before after : Reader
       → LeavesWriter start was left before after old new fault → n ≡ status_of fault
       → EndsOver start was left before after old new n
 
--- what a run leaves of the writer where it ends with this fault: where the writer failed a front of what was to be
--- there, and else all as it was
-abbrev pub LeavesRunWriter : Start → (was left : StoreValue) → Output → (before after : Reader) (old new : Writer)
-    → RunTextFault → Type 0
-LeavesRunWriter start was left output before after old new (texts.Text Write) =
-    WritesRunFront start was left output before after old new
-LeavesRunWriter start was left output before after old new fault = new ≡ old
+-- what a fault leaves of the writer: where the writer failed this front of what was to be there, and else all as it was
+abbrev pub LeavesFront : (front : Type 0) → (old new : Writer) → RunTextFault → Type 0
+LeavesFront front old new (texts.Text Write) = front
+LeavesFront front old new fault = new ≡ old
 
--- how a run over a store ends: with 0 where what was read was run and what was asked for written, and else with the
--- status of the fault
-pub data EndsRun (start : Start) (was left : StoreValue) (output : Output) (before after : Reader) (old new : Writer)
-    (n : ℕ) : Type 0 where
-  ran : n ≡ 0 → WritesRun start was left output before after old new
-      → EndsRun start was left output before after old new n
-  stopped : (fault : RunTextFault) → IsRunTextFault start was left before after fault
-      → LeavesRunWriter start was left output before after old new fault → n ≡ run_text_status fault
-      → EndsRun start was left output before after old new n
+-- how something ends that runs a scenario by threads: with 0 where the whole is written that was asked for, and else
+-- with the status of one of these faults
+pub data EndsByThreads (whole front : Type 0) (is_fault : RunTextFault → Type 0) (old new : Writer) (n : ℕ) : Type 0
+  where
+    ran : n ≡ 0 → whole → EndsByThreads whole front is_fault old new n
+    stopped : (fault : RunTextFault) → is_fault fault → LeavesFront front old new fault → n ≡ run_text_status fault
+        → EndsByThreads whole front is_fault old new n
+
+-- how a run over a store ends: the whole is its report, or its journal
+abbrev pub EndsRun : Start → (was left : StoreValue) → Output → (before after : Reader) (old new : Writer) → ℕ
+    → Type 0
+EndsRun start was left output before after old new n =
+    EndsByThreads (WritesRun start was left output before after old new)
+    (WritesRunFront start was left output before after old new) (IsRunTextFault start was left before after) old new n
+
+-- the same of a run with random fault lines: the whole is each of these as a remark, and then the report or the journal
+abbrev pub EndsChaos : Start → (was left : StoreValue) → Output → Chaos → (before after : Reader) (old new : Writer)
+    → ℕ → Type 0
+EndsChaos start was left output chaos before after old new n =
+    EndsByThreads (WritesChaos start was left output chaos before after old new)
+    (WritesChaosFront start was left output chaos before after old new) (IsChaosFault start was left chaos before after)
+    old new n
 
 -- how a command over a store ends
 abbrev pub EndsCommand : (was left : StoreValue) → Command → (before after : Reader) (old new : Writer) → ℕ → Type 0
 EndsCommand was left (Replay start) before after old new n = EndsOver start was left before after old new n
 EndsCommand was left (Run start output) before after old new n = EndsRun start was left output before after old new n
+EndsCommand was left (RunChaos start output chaos) before after old new n =
+    EndsChaos start was left output chaos before after old new n
 
 -- how a command over this store of a kind ends, which is left like that one
 abbrev pub EndsAs : {S : Type 0} → Ghosts S → (store left : S) → Command → (before after : Reader)

@@ -1,10 +1,11 @@
 //! The commands, and their names.
 //! Cited by request.rt, running.rt; other crates.
 ghost use Rattle.std.specs.Prelude.{◌≡◌};
-ghost use Rattle.kt_command.specs.Command.{command_of};
+ghost use Rattle.kt_command.specs.Command.{command_of, with_chaos};
 
 use kt_run::Output;
 use kt_scene::Start;
+use kt_trials::Chaos;
 
 /// What a program is asked to do. The world is opened over its store, or goes on from what is stored.
 #[derive(Clone, Copy, Debug, PartialEq, Eq)]
@@ -13,6 +14,8 @@ pub enum Command {
     Replay(Start),
     /// Runs a scenario of fault lines by a thread for each node, and writes its report or its journal.
     Run(Start, Output),
+    /// The same with random fault lines behind those of the scenario. They are written too, as remarks in front.
+    RunChaos(Start, Output, Chaos),
 }
 
 impl Command {
@@ -40,6 +43,19 @@ impl Command {
             Some(Command::Run(start, output))
         } else {
             None
+        }
+    }
+
+    /// The command with these random fault lines, if there are any. A run has them, and no other command.
+    pub fn with_chaos(self, chaos: Option<Chaos>) -> Command
+        ensures { result ≡ with_chaos chaos self }
+    {
+        let Some(chaos) = chaos else {
+            return self;
+        };
+        match self {
+            Command::Run(start, output) => Command::RunChaos(start, output, chaos),
+            Command::Replay(_) | Command::RunChaos(_, _, _) => self,
         }
     }
 }

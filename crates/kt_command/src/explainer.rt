@@ -1,16 +1,20 @@
-//! What is said beside the line of a fault: why it came, and what to do.
-//! Cited by carrying.rt, request.rt, running.rt; other crates; whoever calls the trait `Observer`.
+//! What is said beside the line of a fault, why it came and what to do; and behind a report, what it came to.
+//! Cited by carrying.rt, checking.rt, completing.rt, repeating.rt, request.rt, running.rt; other crates; whoever
+//!   calls the trait `Observer`.
 
-ghost use Rattle.std.specs.Prelude.{◌≡◌, ◌≢◌};
+ghost use Rattle.std.specs.Prelude.{◌≡◌};
 
+use crate::explanation::explanation_json;
+use crate::request::Telling;
 use crate::status::DONE;
 use kt_core::{Step, World};
 use kt_explain::explain_text;
 use kt_reasons::{explain_fault, explain_step, explain_unopened};
-use kt_run::RunTextFault;
-use kt_scene::{Observer, ReplayFault, SceneFault, WorkKind};
+use kt_run::{Output, RunTextFault};
+use kt_scene::{MAX_TEXT, Observer, ReplayFault, SceneFault, WorkKind};
 use kt_stage::RunFault;
 use kt_store::CkptStore;
+use kt_summary::explain_end;
 use std::alloc::{AllocError, Global};
 use std::fmt::Display;
 use std::io::Write;
@@ -22,6 +26,8 @@ pub enum Explained {
     Nothing,
     /// Behind the line of a fault, why it came.
     Faults,
+    /// That, and behind a report what the scenario came to.
+    All,
 }
 
 /// Gathers what is explained while a command is done, and says it behind the line of the fault. Where memory for it is
@@ -29,8 +35,12 @@ pub enum Explained {
 #[derive(Debug, Drop)]
 pub struct Explainer {
     much: Explained,
-    /// What is to be said.
+    /// What is to be said of a fault.
     words: Vec<u8>,
+    /// What is to be said behind a report.
+    ending: Vec<u8>,
+    /// How long the journal was that was written, where it is too long for a scenario.
+    long_journal: Option<u64>,
 }
 
 impl Explainer {
@@ -41,7 +51,21 @@ impl Explainer {
         Explainer {
             much,
             words: Vec::new(alloc),
+            ending: Vec::new(alloc),
+            long_journal: None,
         }
+    }
+
+    /// From here on faults alone are explained: what one of several runs came to is not what they did.
+    pub(crate) fn explain_faults_alone(&mut self) {
+        if self.much == Explained::All {
+            self.much = Explained::Faults;
+        }
+    }
+
+    /// Whether a fault is to be explained.
+    fn explains_faults(&self) -> bool {
+        self.much != Explained::Nothing
     }
 
     /// Keeps what explains a fault, where there was memory for it.
@@ -57,8 +81,8 @@ impl Explainer {
     pub(crate) fn explain_replay(&mut self, alloc: Global, answer: Result<(), ReplayFault>)
         ensures { self.new.much ≡ self.old.much }
     {
-        if let (Explained::Faults, Err(fault)) = (self.much, answer) {
-            if self.words.is_empty() {
+        if let Err(fault) = answer {
+            if self.explains_faults() && self.words.is_empty() {
                 self.keep(explain_fault(alloc, fault));
             }
         }
@@ -86,7 +110,7 @@ impl Explainer {
     pub(crate) fn explain_opening<F: Display>(&mut self, alloc: Global, path: &str, fault: &F)
         ensures { self.new.much ≡ self.old.much }
     {
-        if self.much == Explained::Faults {
+        if self.explains_faults() {
             let words = match fault.to_string(alloc) {
                 Ok(name) => explain_unopened(alloc, path, &name),
                 Err(error) => Err(error),
@@ -95,21 +119,54 @@ impl Explainer {
         }
     }
 
-    /// Says on `errors` what explains the fault of a command that ended with this status; nothing of one that is done.
-    pub fn tell<E: Write>(&self, status: u8, errors: &mut E)
-        ensures done { status ≡ DONE → errors.new ≡ errors.old }
-        ensures nothing { self.now.much ≡ Explained.Nothing → errors.new ≡ errors.old }
-    {
-        if status != DONE && self.much == Explained::Faults {
-            // A standard error that is closed leaves the status alone to tell.
-            let _ = errors.write_all(&self.words);
+    /// Notes that so many bytes were written, of a report or of a journal.
+    pub(crate) fn note_output(&mut self, output: Output, count: u64) {
+        if output == Output::Journal && count > MAX_TEXT as u64 {
+            self.long_journal = Some(count);
         }
+    }
+
+    /// Says on `errors` what explains the fault of a command that ended with this status; of one that is done, what it
+    /// came to, where all is to be explained.
+    pub fn tell<E: Write>(
+        &self,
+        alloc: Global,
+        much: Explained,
+        telling: Telling,
+        status: u8,
+        errors: &mut E,
+    )
+        ensures { much ≡ Explained.Nothing → errors.new ≡ errors.old }
+    {
+        if much == Explained::Nothing {
+            return;
+        }
+        // A standard error that is closed leaves the status alone to tell.
+        if let Some(count) = self.long_journal {
+            let _ = writeln!(
+                errors,
+                "The journal has {count} bytes, and a scenario at most {MAX_TEXT}: it can be read, and not replayed."
+            );
+        }
+        let words = if status == DONE {
+            &self.ending
+        } else {
+            &self.words
+        };
+        // Where memory is wanting, nothing is said. An object is the last line.
+        let _ = match telling {
+            Telling::Json => match explanation_json(alloc, status, words) {
+                Ok(object) => errors.write_all(&object),
+                Err(AllocError) => Ok(()),
+            },
+            _ => errors.write_all(words),
+        };
     }
 }
 
 impl Observer for Explainer {
     fn misread(&mut self, alloc: Global, text: &[u8], kind: WorkKind, fault: SceneFault) {
-        if self.much == Explained::Faults {
+        if self.explains_faults() {
             self.keep(explain_text(alloc, text, kind, fault));
         }
     }
@@ -122,10 +179,25 @@ impl Observer for Explainer {
         steps: &[Step],
         fault: ReplayFault,
     ) {
-        if let (Explained::Faults, ReplayFault::Step { at, cause }) = (self.much, fault) {
-            self.keep(explain_step(alloc, text, world, steps, at, cause));
+        if let ReplayFault::Step { at, cause } = fault {
+            if self.explains_faults() {
+                self.keep(explain_step(alloc, text, world, steps, at, cause));
+            }
         }
     }
 
-    fn ended<S: CkptStore>(&mut self, _alloc: Global, _world: &World<S>, _steps: &[Step]) {}
+    fn ended<S: CkptStore>(
+        &mut self,
+        alloc: Global,
+        text: &[u8],
+        world: &World<S>,
+        steps: &[Step],
+    ) {
+        if self.much == Explained::All {
+            // Where memory for it is wanting, nothing is said.
+            if let Ok(words) = explain_end(alloc, text, world, steps) {
+                self.ending = words;
+            }
+        }
+    }
 }

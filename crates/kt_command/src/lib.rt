@@ -5,18 +5,28 @@
 //!   else with the status of the fault that stopped it. It does so over a fresh store in memory, or over the very store
 //!   that was opened at the path that is named. A store of the version before is carried over by the journal that made
 //!   it (`carry_over`, clause `told`).
-//! - Stands on: kt_text, kt_explain, kt_store, kt_model, kt_core, kt_scene, kt_reasons, kt_stage, kt_run
+//! - Stands on: kt_tuple, kt_text, kt_chaos, kt_explain, kt_store, kt_show, kt_model, kt_core, kt_scene, kt_reasons,
+//!   kt_stage, kt_summary, kt_complete, kt_run, kt_trials, kt_words; of the kit: json
 //! - Begin in: `request.rt`, then `running.rt` and `carrying.rt`, and `status.rt` for the exit statuses.
 #![tactic(auto)]
 
 mod carries;
 mod carrying;
+mod checking;
 mod command;
+mod completing;
 mod explainer;
+mod explanation;
+mod meaning;
 mod opens;
+mod printing;
+mod repeating;
 mod request;
 mod running;
+mod showing;
+mod shows;
 mod status;
+mod texts;
 mod words;
 
 pub use carries::Carries;
@@ -24,9 +34,11 @@ pub use carrying::carry_over;
 pub use command::Command;
 pub use explainer::{Explained, Explainer};
 pub use opens::Opens;
-pub use request::{Request, run_request};
+pub use request::{Request, Task, Telling, Terminals, run_request};
 pub use running::{run_in_memory, run_returning_store};
+pub use shows::Shows;
 pub use status::{
     COMMAND_LINE, DONE, MEMORY, SCENARIO, STEP, STEP_LIMIT, STORE, STREAM, end_replay, end_run,
 };
+pub use texts::Texts;
 pub use words::{texts_of, words_behind};

@@ -10,6 +10,7 @@ use kt_run::run_text_returning_store;
 use kt_scene::{Sink, Source, replay_returning_store};
 use kt_stage::OpenGate;
 use kt_store::{CkptStore, MemStore, memory_may_go};
+use kt_trials::run_chaos_returning_store;
 use std::alloc::Global;
 use std::io::{Read, Write};
 use std::sync::Wait;
@@ -51,6 +52,15 @@ pub fn run_returning_store<
                 threads, alloc, start, reader, writer, store, output, &OpenGate, explainer,
             );
             explainer.explain_run(alloc, answer);
+            explainer.note_output(output, writer.count());
+            (end_run(answer, errors), left)
+        }
+        Command::RunChaos(start, output, chaos) => {
+            let (answer, left) = run_chaos_returning_store(
+                threads, alloc, start, reader, writer, store, output, chaos, &OpenGate, explainer,
+            );
+            explainer.explain_run(alloc, answer);
+            explainer.note_output(output, writer.count());
             (end_run(answer, errors), left)
         }
     }

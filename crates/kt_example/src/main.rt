@@ -1,21 +1,25 @@
 //! The first worker hands the task 7 over, which a checkpoint then holds, and the second takes it, which is lost when
 //! the shard fails. So the second rolls back, takes the task again, and says which one it has done.
 //!
-//! What is proved beside: the store stays honest, whatever the steps do, as nothing can fail one in memory. So the laws
-//! of kt_model hold of this world after each step, here that each worker stands in its script where the answers in its
-//! log say.
+//! What is proved beside: the store stays honest, whatever the steps do, as nothing can fail one in memory. So the
+//! headline holds of this world after each step: `space` makes up the tuples of the surviving services, and its clause
+//! says that these services are one run of a tuple space that leads there. The laws of kt_model hold too, here that each
+//! worker stands in its script where the answers in its log say.
 #![tactic(auto)]
 
 ghost use Rattle.std.specs.Prelude.{IfOk, IsTrue};
+ghost use Rattle.kt_history.specs.Survival.{services};
 ghost use Rattle.kt_model.specs.Workers.{WorkersFollowLogs};
+ghost use Rattle.kt_tuple.specs.Space.{IsSpaceRun};
 
 use kt_core::{Scene, Step, World};
-use kt_history::History;
+use kt_history::{History, space_of};
 use kt_model::workers_stand_as_their_answers_say;
 use kt_script::{Actual, Actuals, Command, Name, Operation, Pattern, Script, Slot};
+use kt_space::Bag;
 use kt_store::MemStore;
 use kt_tuple::{Kind, NodeId, Str, Value};
-use std::alloc::Global;
+use std::alloc::{AllocError, Global};
 use std::test::Fail;
 
 const WORKERS: [NodeId; 2] = [NodeId::Worker(1), NodeId::Worker(2)];
@@ -119,7 +123,17 @@ fn history_of(world: &World<MemStore>) -> &History
     world.history()
 }
 
-/// Prints how many services were lost, and which survive.
+/// The tuples in the space after the surviving services. `space_of` promises this of services that are one run of a
+/// tuple space. That these are one, whatever steps were made, is the headline of the world.
+fn space(alloc: Global, world: &World<MemStore>) -> Result<Bag, AllocError>
+    requires { IsTrue world.now.is_honest }
+    ensures one_run { IfOk result (λ bag. IsSpaceRun (services world.now.state.history) bag.tuples) }
+{
+    let survivors = world.history().survivors(alloc)?;
+    space_of(alloc, &survivors)
+}
+
+/// Prints how many services were lost, which survive, and how many tuples they leave.
 fn print_survivors(rt: &HostRuntime, world: &World<MemStore>, when: &str) -> Result<(), Fail>
     requires { IsTrue world.now.is_honest }
 {
@@ -132,5 +146,6 @@ fn print_survivors(rt: &HostRuntime, world: &World<MemStore>, when: &str) -> Res
         let text = String::from_utf8(text).map_err(|_| "a text")?;
         println!(rt; "w{}.{} {text}", service.worker, service.number)?;
     }
+    println!(rt; "space {}", space(alloc, world)?.len())?;
     Ok(())
 }

@@ -9,7 +9,8 @@ use Rattle.kt_explain.specs.Near.{edits, IsNearest}
 module _ (written : List ℕ) (first : Bor (List ℕ)) (later words : List (Bor (List ℕ))) (bound : ℕ) (split : words ≡ first ∷ later)
     (far : bound ≤ edits written first.now) where
   -- a word before the others changes nothing where it is no nearer
-  pub nearest_more : (meant : List ℕ) → edits written meant < bound → IsNearest written (map (λ w. w.now) later) meant → IsNearest written (map (λ w. w.now) words) meant
+  pub nearest_more : (meant : List ℕ) → edits written meant < bound →
+      IsNearest written (map (λ w. w.now) later) meant → IsNearest written (map (λ w. w.now) words) meant
   nearest_more meant below h =
       let le : edits written meant ≤ edits written first.now = omega (arith, below, far) in
       subst (λ (ws : List (Bor (List ℕ))). IsNearest written (map (λ w. w.now) ws) meant) (sym split) (record {

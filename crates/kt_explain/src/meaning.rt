@@ -1,5 +1,5 @@
 //! What each number and name that the program prints means.
-//! Cited by meaning_table.rt.
+//! Cited by meaning_table.rt; other crates.
 
 use crate::meaning_table::MEANINGS;
 use kt_tuple::writing::push_number;

@@ -147,7 +147,7 @@ pub(crate) const MEANINGS: &[Meaning] = &[
         kind: MeaningKind::Status,
         number: Some(7),
         name: "",
-        text: "standard input or standard output failed",
+        text: "standard input, the file of the scenario or standard output failed",
     },
     Meaning {
         kind: MeaningKind::Status,

@@ -28,18 +28,18 @@ const NO_WORKER: &str =
     "a scenario has at least one worker: write a line `worker` above this one, and its commands below `worker`";
 
 const FAULTS_OF_RUN: &str =
-    "`faults` is for `linda_kt run`: type `linda_kt run < FILE`; for `replay` write `steps` here, and steps below";
+    "`faults` is for `linda_kt run`: type `linda_kt run FILE`; for `replay` write `steps` here, and steps below";
 
 const STEPS_OF_REPLAY: &str =
-    "`steps` is for `linda_kt replay`: type `linda_kt replay < FILE`; for `run` write `faults` here, and no steps";
+    "`steps` is for `linda_kt replay`: type `linda_kt replay FILE`; for `run` write `faults` here, and no steps";
 
 const STEP_OF_REPLAY: &str =
     "a step is for `linda_kt replay`, below `steps`; for `run` write `faults` here, then lines as `fail w1 after 3`";
 
-const JOURNAL: &str = "this is a journal, the steps that a run made: type `linda_kt replay < FILE`";
+const JOURNAL: &str = "this is a journal, the steps that a run made: type `linda_kt replay FILE`";
 
 const RESUMED_JOURNAL: &str =
-    "a journal of a run that went on: type `linda_kt resume --store COPY < FILE`, COPY its store from before the run";
+    "a journal of a run that went on: type `linda_kt resume --store COPY FILE`, COPY its store from before the run";
 
 /// What is wrong where the first worker is wanted.
 pub(crate) fn finding_before_workers<'a>(

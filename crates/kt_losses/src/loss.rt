@@ -1,5 +1,5 @@
 //! The lost services, each with the cut that lost it.
-//! Cited by no other file of crates/.
+//! Cited by other crates.
 
 ghost use Rattle.std.specs.Prelude.{◌≡◌, ◌≢◌, ℕ, length, IfOk, All, Contains};
 ghost use Rattle.std.specs.List.Sorted.{IsStrictlyIncreasing};

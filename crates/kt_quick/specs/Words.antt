@@ -1,5 +1,5 @@
 -- The words that the program knows, and how it ends by them.
--- Cited by Words, program.rt, `program::run_words`.
+-- Cited by Words, program.rt, `program::run_arguments`, `program::run_words`.
 use Rattle.std.specs.Prelude.{◌≡◌, ℕ, Bool, false, ◌&&◌, ◌||◌, if◌then◌else◌, List, [], ◌∷◌, Option, None, Some, codes}
 use Rattle.kt_scene.specs.Outside.{Reader, Writer}
 use Rattle.kt_run.specs.declared.running.Output.TheVariants as outputs
@@ -35,6 +35,12 @@ command_asked (name ∷ []) = command_of_one name
 command_asked (name ∷ flag ∷ []) = command_of_two name flag
 command_asked (name ∷ first ∷ second ∷ []) = command_of_three name first second
 command_asked (name ∷ first ∷ second ∷ more ∷ words) = None
+
+-- the words of a command ask for an explanation
+abbrev pub ask_for_words : List Text → Bool
+ask_for_words (name ∷ flag ∷ []) = is_word flag (codes "--explain")
+ask_for_words (name ∷ first ∷ second ∷ []) = is_word first (codes "--explain") || is_word second (codes "--explain")
+ask_for_words words = false
 
 -- the exit status by the words: that of the command that they name, over a fresh store in memory; 2 where they name
 -- none; 6 where memory ran out before they were read. Of the last two nothing is read and nothing written.

@@ -1,13 +1,13 @@
 //! What the program does with its words and its three streams.
 //! Cited by no other file of crates/.
-ghost use Rattle.std.specs.Prelude.{◌≡◌, ◌⊎◌, IfOk, IsErr};
+ghost use Rattle.std.specs.Prelude.{◌≡◌, ◌⊎◌, ◌||◌, codes, false, IfOk, IsErr};
 ghost use Rattle.std.specs.Vec.Iter.{into_iter_items};
-ghost use Rattle.kt_command.specs.Command.{texts, words_behind};
-ghost use Rattle.kt_quick.specs.Words.{IsQuickStatus, command_asked, command_of_one, command_of_three};
-ghost use Rattle.kt_quick.specs.Words.{command_of_two};
+ghost use Rattle.kt_command.specs.Command.{is_word, texts, words_behind};
+ghost use Rattle.kt_quick.specs.Words.{IsQuickStatus, ask_for_words, command_asked, command_of_one};
+ghost use Rattle.kt_quick.specs.Words.{command_of_three, command_of_two};
 
 use kt_command::{
-    COMMAND_LINE, Command, DONE, Explained, Explainer, MEMORY, run_in_memory, texts_of,
+    COMMAND_LINE, Command, DONE, Explained, Explainer, MEMORY, Telling, run_in_memory, texts_of,
     words_behind,
 };
 use kt_run::Output;
@@ -35,7 +35,8 @@ pub fn run_arguments<T: Threads + Wait + Sync, R: Read, W: Write, E: Write>(
     ensures no_text { IsErr arguments → result ≡ COMMAND_LINE }
     ensures no_text_reads_nothing { IsErr arguments → reader.new ≡ reader.old }
     ensures no_text_prints_nothing { IsErr arguments → writer.new ≡ writer.old }
-    ensures done_without_a_word { result ≡ DONE → errors.new ≡ errors.old }
+    ensures done_without_a_word { IfOk arguments (λ a. ask_for_words (words_behind (into_iter_items a)) ≡ false
+        → is_watched ≡ false → result ≡ DONE → errors.new ≡ errors.old) }
 {
     match arguments {
         Ok(arguments) => match texts_of(alloc, arguments) {
@@ -57,7 +58,8 @@ fn run_texts<T: Threads + Wait + Sync, R: Read, W: Write, E: Write>(
     is_watched: bool,
 ) -> u8
     ensures told { IsQuickStatus (words_behind arguments.now) reader.old reader.new writer.old writer.new result }
-    ensures done_without_a_word { result ≡ DONE → errors.new ≡ errors.old }
+    ensures done_without_a_word { ask_for_words (words_behind arguments.now) ≡ false → is_watched ≡ false
+        → result ≡ DONE → errors.new ≡ errors.old }
 {
     match words_behind(alloc, arguments) {
         Ok(words) => run_words(threads, alloc, &words, reader, writer, errors, is_watched),
@@ -76,11 +78,13 @@ fn run_words<T: Threads + Wait + Sync, R: Read, W: Write, E: Write>(
     is_watched: bool,
 ) -> u8
     ensures told { IsQuickStatus (texts words.now) reader.old reader.new writer.old writer.new result }
-    ensures done_without_a_word { result ≡ DONE → errors.new ≡ errors.old }
+    ensures done_without_a_word { ask_for_words (texts words.now) ≡ false → is_watched ≡ false → result ≡ DONE
+        → errors.new ≡ errors.old }
 {
     match command_asked(words) {
         Some(command) => {
-            let mut explainer = Explainer::new(alloc, explained(words, is_watched));
+            let much = explained(words, is_watched);
+            let mut explainer = Explainer::new(alloc, much);
             let status = run_in_memory(
                 threads,
                 alloc,
@@ -90,7 +94,7 @@ fn run_words<T: Threads + Wait + Sync, R: Read, W: Write, E: Write>(
                 errors,
                 &mut explainer,
             );
-            explainer.tell(status, errors);
+            explainer.tell(alloc, much, Telling::Words, status, errors);
             status
         }
         None => refuse_words(errors),
@@ -136,13 +140,42 @@ fn command_of_three(name: &str, first: &str, second: &str) -> Option<Command>
     }
 }
 
-/// How much is explained: a fault is where the words ask for that, or where a person watches.
-fn explained(words: &[&str], is_watched: bool) -> Explained {
-    if is_watched || words.iter().any(|word| *word == "--explain") {
+/// How much is explained: all where the words ask for that, and a fault where a person watches.
+fn explained(words: &[&str], is_watched: bool) -> Explained
+    ensures { ask_for_words (texts words.now) ≡ false → is_watched ≡ false → result ≡ Explained.Nothing }
+{
+    if ask_for_words(words) {
+        Explained::All
+    } else if is_watched {
         Explained::Faults
     } else {
         Explained::Nothing
     }
+}
+
+/// Whether the words of a command ask for an explanation.
+fn ask_for_words(words: &[&str]) -> bool
+    ensures { result ≡ ask_for_words (texts words.now) }
+{
+    match words {
+        [_, flag] => asks_for_words(flag),
+        [_, first, second] => one_asks_for_words(first, second),
+        _ => false,
+    }
+}
+
+/// Whether one of two flags asks for an explanation.
+fn one_asks_for_words(first: &str, second: &str) -> bool
+    ensures { result ≡ is_word first.now (codes "--explain") || is_word second.now (codes "--explain") }
+{
+    asks_for_words(first) || asks_for_words(second)
+}
+
+/// Whether the flag asks for an explanation.
+fn asks_for_words(flag: &str) -> bool
+    ensures { result ≡ is_word flag.now (codes "--explain") }
+{
+    flag == "--explain"
 }
 
 /// The command that one word names. In memory there is nothing to go on from.

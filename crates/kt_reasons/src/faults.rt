@@ -3,7 +3,7 @@
 
 use crate::names::Name;
 use crate::reasons::meaning_of_store;
-use kt_scene::{OpenError, ReplayFault, ResumeError, StepError};
+use kt_scene::{MAX_TEXT, OpenError, ReplayFault, ResumeError, SceneError, StepError};
 use std::alloc::{AllocError, Global};
 use std::fmt::Write;
 
@@ -13,7 +13,8 @@ const NOT_FRESH: &str =
      `linda_kt resume --store FILE` or `linda_kt run --resume --store FILE`";
 
 /// What the fault means and what to do, on a line that begins with two spaces. Nothing of a fault that has a line of
-/// the text: `explain_text` and `explain_step` explain that.
+/// the text: `explain_text` and `explain_step` explain that. Only a limit of line 1 is explained here: no line that can
+/// stand there has one, so the text is too long, and is not kept.
 pub fn explain_fault(alloc: Global, fault: ReplayFault) -> Result<Vec<u8>, AllocError> {
     let mut out = String::new(alloc);
     match fault {
@@ -33,10 +34,17 @@ pub fn explain_fault(alloc: Global, fault: ReplayFault) -> Result<Vec<u8>, Alloc
             writeln!(out, "  {meaning}")?;
         }
         ReplayFault::Read => out.push_str(
-            "  standard input could not be read: is it a folder, or closed? Give a file, as in `linda_kt run < FILE`\n",
+            "  the scenario could not be read: is it a folder, or was standard input closed?\n",
         )?,
         ReplayFault::Write => out.push_str(
             "  standard output could not be written: is the disk full, or has the reader gone? Write it elsewhere\n",
+        )?,
+        ReplayFault::Scene {
+            line: 1,
+            cause: SceneError::Limit,
+        } => writeln!(
+            out,
+            "  the text has more than {MAX_TEXT} bytes: make it shorter"
         )?,
         ReplayFault::Step {
             at: _,
@@ -64,7 +72,7 @@ fn why_not_opened(name: &str) -> Option<&'static str> {
             "it is there and is no store of this program: name a file that is not there yet",
         ),
         "Version" => Some(
-            "it is of version 1: carry it over by `linda_kt migrate --store FILE < JOURNAL`, with the steps that \
+            "it is of version 1: carry it over by `linda_kt migrate --store FILE JOURNAL`, with the steps that \
              `run --journal` wrote as it was made",
         ),
         "Mismatch" => Some(

@@ -182,7 +182,7 @@ where
     let faults = work.into_faults().unwrap();
     match run_threads_returning_left(rt, alloc, start, scene, faults, store, gate) {
         Ok(journal) => {
-            observer.ended(alloc, journal.world(), journal.steps());
+            observer.ended(alloc, text, journal.world(), journal.steps());
             Ok(journal)
         }
         Err((fault, left)) => Err((RunTextFault::from(fault), left.into_store())),

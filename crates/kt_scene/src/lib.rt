@@ -27,7 +27,7 @@ pub use kt_text::{
 pub use laws::{a_state_has_one_report, what_a_journal_tells_is_read};
 pub use observer::{Nobody, Observer};
 pub use replaying::{
-    replay, replay_returning_store, replay_world, report_returning_store, resume_replay,
+    make_steps, replay, replay_returning_store, replay_world, report_returning_store, resume_replay,
 };
 pub use report::write_report;
 pub use sink::Sink;

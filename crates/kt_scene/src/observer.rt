@@ -23,8 +23,9 @@ pub trait Observer {
         fault: ReplayFault,
     );
 
-    /// These steps were made, and this is the world behind them, of which the report is to be written.
-    fn ended<S: CkptStore>(&mut self, alloc: Global, world: &World<S>, steps: &[Step]);
+    /// These steps were made of what the text spells: all its steps, or those that its run found. The world is the one
+    /// behind them, of which the report is to be written.
+    fn ended<S: CkptStore>(&mut self, alloc: Global, text: &[u8], world: &World<S>, steps: &[Step]);
 }
 
 /// An observer that takes no notice.
@@ -43,5 +44,11 @@ impl Observer for Nobody {
         _fault: ReplayFault,
     ) {}
 
-    fn ended<S: CkptStore>(&mut self, _alloc: Global, _world: &World<S>, _steps: &[Step]) {}
+    fn ended<S: CkptStore>(
+        &mut self,
+        _alloc: Global,
+        _text: &[u8],
+        _world: &World<S>,
+        _steps: &[Step],
+    ) {}
 }

@@ -3,10 +3,10 @@
 
 ghost use Rattle.std.specs.Prelude.{◌≡◌, ◌≢◌, Err, IfOk, IfErr, IsTrue, OnOk};
 ghost use Rattle.kt_text.specs.Work.{steps_of};
-ghost use Rattle.kt_scene.specs.Runs.{BeginsAndRunsTo, RunsTo};
+ghost use Rattle.kt_scene.specs.Runs.{BeginsAndRunsTo, IsStepFault, RunsTo};
 ghost use Rattle.kt_text.specs.Reading.{model_of};
 ghost use Rattle.kt_scene.specs.Run.{LeadsTo, IsTextFault, IsReplayed, IsReplayedReport, IsWorldFault};
-ghost use Rattle.kt_scene.specs.auxiliary.Making.{IsStepFault, IsRunFault};
+ghost use Rattle.kt_scene.specs.auxiliary.Making.{IsRunFault};
 ghost use Rattle.kt_scene.specs.Run.{WritesReplayed, WritesReplayedFront, IsReplayFault};
 ghost use Rattle.kt_scene.specs.Stream.{UnlessWrite};
 ghost use Rattle.kt_core.specs.Store.{IsLeftSome, store_value};
@@ -249,7 +249,7 @@ fn run<S: CkptStore + Drop, O: Observer>(
     match start.begin(alloc, scene, store) {
         Ok(mut world) => match make_steps(alloc, &mut world, steps) {
             Ok(()) => {
-                observer.ended(alloc, &world, steps);
+                observer.ended(alloc, text, &world, steps);
                 Ok(world)
             }
             Err(fault) => {
@@ -261,8 +261,8 @@ fn run<S: CkptStore + Drop, O: Observer>(
     }
 }
 
-/// Makes the steps one after the other, up to the first that is refused.
-fn make_steps<S: CkptStore>(
+/// Makes the steps one after the other, up to the first that is refused. Those before it stay made.
+pub fn make_steps<S: CkptStore>(
     alloc: Global,
     world: &mut World<S>,
     steps: &[Step],

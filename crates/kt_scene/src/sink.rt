@@ -12,6 +12,8 @@ use std::marker::Model;
 pub struct Sink<W: Write> {
     writer: W,
     outcome: Outcome,
+    /// How many bytes were written, to be told to people.
+    count: u64,
 }
 
 impl<W: Write> Model for Sink<W> {
@@ -35,7 +37,14 @@ impl<W: Write> Sink<W> {
         Sink {
             writer,
             outcome: Outcome::Open,
+            count: 0,
         }
+    }
+
+    /// How many bytes of known length were written so far: all but those of `print`. It is for people, and no clause
+    /// speaks of it.
+    pub fn count(&self) -> u64 {
+        self.count
     }
 
     /// What the calls came to so far: `Open` before the first.
@@ -49,7 +58,11 @@ impl<W: Write> Sink<W> {
     pub fn into_inner(self) -> W
         ensures { W.contents result ≡ self.bytes }
     {
-        let Sink { writer, outcome: _ } = self;
+        let Sink {
+            writer,
+            outcome: _,
+            count: _,
+        } = self;
         writer
     }
 
@@ -69,6 +82,7 @@ impl<W: Write> Sink<W> {
                 Ok(0) => return 0,
                 Ok(count) => {
                     self.outcome = Outcome::Open;
+                    self.count = self.count.saturating_add(count as u64);
                     return count;
                 }
                 Err(error) if error.kind() == ErrorKind::Interrupted => {}

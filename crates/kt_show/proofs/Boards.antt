@@ -1,5 +1,5 @@
 -- What is told of the numbers below the next one is the board.
--- Cited by `showing::gather_stored`.
+-- Cited by Helds, `showing::gather_stored`.
 use Rattle.std.proofs.Common.{◌≡◌, ℕ, zero, suc, ◌+◌, ◌≤◌, ◌<◌, ◌==◌, Bool, true, false, cond, List, [], ◌∷◌, ◌++◌, length, map, All, AllPairs}
 use Rattle.std.proofs.Common.{Some, refl, sym, ap, ◌∙◌, arith}
 use Rattle.std.specs.Prelude.{nat_lt, codes}
@@ -19,7 +19,7 @@ use Rattle.kt_show.specs.auxiliary.Told.{listed, told_from, told_line, told_line
 abbrev told_in : List InstanceRow → ℕ → List Told
 told_in board i = listed (option_map (told_from i) (find (λ (row : InstanceRow). row.instance == i) board))
 
-abbrev told_of : InstanceRow → Told
+abbrev pub told_of : InstanceRow → Told
 told_of row = told_from row.instance row
 
 abbrev told_or : InstanceRow → ℕ → List InstanceRow → Bool → List Told
@@ -104,6 +104,11 @@ flat_map-map : {A B : Type 0} (f : B → List ℕ) (g : A → B) (xs : List A) �
 flat_map-map f g [] = refl
 flat_map-map f g (x ∷ xs) = ap (λ (l : List ℕ). f (g x) ++ l) (flat_map-map f g xs)
 
+-- all that is told of the numbers below the next one are the rows of the board
+pub told_all : (c : Content) → IsBoard c.board → flat_map (told_list c) (range_with_len 0 (next_instance c)) ≡ map told_of c.board
+told_all c is = all_told (next_instance c) 0 c.board is.rising (λ k d lt. omega arith)
+    (λ k d lt. let up = above_all c.board 0 k d lt in omega (arith, up))
+
 -- the lines of what is told are those of the board
 told_board : (board : List InstanceRow) → told_lines (map told_of board) ≡ board_lines board
 told_board board =
@@ -116,7 +121,4 @@ told_board board =
 
 -- what is told of all numbers below the next one are the lines of the board
 pub board_told : (c : Content) → IsBoard c.board → told_lines (flat_map (told_list c) (range_with_len 0 (next_instance c))) ≡ board_lines c.board
-board_told c is =
-    ap told_lines (all_told (next_instance c) 0 c.board is.rising (λ k d lt. omega arith)
-    (λ k d lt. let up = above_all c.board 0 k d lt in omega (arith, up)))
-    ∙ told_board c.board
+board_told c is = ap told_lines (told_all c is) ∙ told_board c.board

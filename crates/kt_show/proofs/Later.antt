@@ -1,5 +1,6 @@
 -- One reading after another.
--- Cited by `board::tell_below`, `node::push_nodes`, `node::row_of`, `showing::gather_stored`.
+-- Cited by `board::tell_below`, `node::push_nodes`, `node::row_of`, `showing::gather_stored`,
+--   `showing_json::read_held`, `showing_json::read_rows`.
 use Rattle.std.proofs.Common.{rules, ◌≡◌, ℕ, zero, suc, ◌+◌, ◌<◌, length, get_or, take, List, ◌++◌, append-nil, append_assoc, add-one}
 use Rattle.std.proofs.Common.{Ok, Err, sym, ap, ◌∙◌, subst, arith}
 use Rattle.std.specs.Prelude.{false, IsErrOf, IsTrue}
@@ -100,8 +101,8 @@ added {A = A} kind old between new f so_far all k x follows before r = (
 )
 
 -- what one thing more of a list adds
-pub added_item : {S X T : Type 0} (kind : Ghosts S) (old between new : S)
-    (f : Content → X → List ℕ) (start so_far all : List ℕ) (xs : List X) (i : ℕ) (d : X) (x : T) → i < length xs
+pub added_item : {S A X T : Type 0} (kind : Ghosts S) (old between new : S)
+    (f : Content → X → List A) (start so_far all : List A) (xs : List X) (i : ℕ) (d : X) (x : T) → i < length xs
     → Follows kind old between → (IsTrue (kind.is_honest between) → so_far ≡ start ++ flat_map (f (kind.content old)) (take i xs))
     → IsGathered kind between new (λ c y. all ≡ so_far ++ f c (get_or xs i d)) (Ok x)
     → Follows kind old new × (IsTrue (kind.is_honest new) → all ≡ start ++ flat_map (f (kind.content old)) (take (i + 1) xs))
@@ -114,11 +115,12 @@ added_item kind old between new f start so_far all xs i d x within follows befor
 )
 
 -- two readings, one after the other
-pub both_gathered : {S T U V : Type 0} (kind : Ghosts S) (old between new : S) (P Q : Content → Type 0) (R : Content → V → Type 0) (x : T) (y : U) (z : V)
-    → ((c : Content) → P c → Q c → R c z) → IsGathered kind old between (λ c t. P c) (Ok x) → IsGathered kind between new (λ c u. Q c) (Ok y)
+pub both_gathered : {S T U V : Type 0} (kind : Ghosts S) (old between new : S)
+    (P : Content → T → Type 0) (Q : Content → U → Type 0) (R : Content → V → Type 0) (x : T) (y : U) (z : V)
+    → ((c : Content) → P c x → Q c y → R c z) → IsGathered kind old between P (Ok x) → IsGathered kind between new Q (Ok y)
     → IsGathered kind old new R (Ok z)
 both_gathered kind old between new P Q R x y z both first second = record {
-  value = λ h. let held = second.honest h in both (kind.content old) (first.value held) (subst Q (first.same held) (second.value h));
+  value = λ h. let held = second.honest h in both (kind.content old) (first.value held) (subst (λ (c : Content). Q c y) (first.same held) (second.value h));
   same = λ h. second.same h ∙ first.same (second.honest h);
   honest = λ h. first.honest (second.honest h);
   lasts = λ never h. second.lasts never (first.lasts never h);

@@ -1,5 +1,5 @@
 -- Why reading a store to show it may be refused, and what the store counts of it.
--- Cited by Later, showing.rt, specs/auxiliary/Gathered.
+-- Cited by Later, showing.rt, showing_json.rt, specs/auxiliary/Gathered.
 use Rattle.std.specs.Prelude.{◌≡◌, ◌⊎◌, Bool, false, Result, Err}
 use Rattle.kt_store.specs.declared.error.StoreError.{StoreError}
 use Rattle.kt_store.specs.declared.error.StoreError.TheVariants.{Memory, Damaged, Full}

@@ -1,3 +1,4 @@
 pub mod Shown
+pub mod ShownJson
 pub mod Calls
 pub mod auxiliary

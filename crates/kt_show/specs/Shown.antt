@@ -1,7 +1,8 @@
 -- What a store holds, in words. Every line ends with a line feed.
--- Cited by Boards, Rows, board.rt, line.rt, node.rt, showing.rt, specs/auxiliary/Told, state.rt, `board::push_told`,
---   `node::push_nodes`, `node::push_permanent`, `node::push_tentative`, `showing::gather_stored`, `state::push_served`,
---   `state::push_tuples`, `state::push_unanswered`, `state::push_values`, `state::push_waiting`, `state::push_worker`.
+-- Cited by Boards, board.rt, board_json.rt, line.rt, node.rt, showing.rt, specs/ShownJson, specs/auxiliary/Told,
+--   state.rt, `ToldAsJson::push_to`, `board::push_told`, `node::push_nodes`, `node::push_permanent`,
+--   `node::push_tentative`, `showing::gather_stored`, `state::push_served`, `state::push_tuples`,
+--   `state::push_unanswered`, `state::push_values`, `state::push_waiting`, `state::push_worker`; other crates.
 use Rattle.std.specs.Prelude.{ℕ, ◌+◌, Bool, true, false, if◌then◌else◌, List, [], ◌∷◌, ◌++◌, length, codes, decimal}
 use Rattle.std.specs.Prelude.{Option, None, Some}
 use Rattle.std.specs.List.{flat_map}

@@ -1,5 +1,5 @@
 //! The board of a store.
-//! Cited by showing.rt.
+//! Cited by board_json.rt, showing.rt, showing_json.rt.
 
 ghost use Rattle.std.specs.Prelude.{◌≡◌, ◌++◌, OnOk};
 ghost use Rattle.std.specs.List.{flat_map, range_with_len};
@@ -25,8 +25,7 @@ pub(crate) struct Told {
     pub(crate) verdict: Verdict,
 }
 
-/// The lines of the board. A store has no read of the board as a whole, so each number below the next one is asked
-/// for.
+/// The lines of the board.
 pub(crate) fn push_board<S: CkptStore>(
     store: &mut S,
     alloc: Global,
@@ -36,10 +35,19 @@ pub(crate) fn push_board<S: CkptStore>(
         (λ c x. out.new.items ≡ out.old.items
         ++ told_lines (flat_map (told_list c) (range_with_len 0 (next_instance c)))) result }
 {
-    let next = store.next_instance()?;
-    let told = tell_below(store, alloc, next)?;
+    let told = tell_all(store, alloc)?;
     push_told(out, &told)?;
     Ok(())
+}
+
+/// All instances that were begun, by rising number. A store has no read of the board as a whole, so each number below
+/// the next one is asked for.
+pub(crate) fn tell_all<S: CkptStore>(store: &mut S, alloc: Global) -> Result<Vec<Told>, StoreError>
+    ensures { IsGathered S.CkptStore store.old store.new
+        (λ c told. told.items ≡ flat_map (told_list c) (range_with_len 0 (next_instance c))) result }
+{
+    let next = store.next_instance()?;
+    tell_below(store, alloc, next)
 }
 
 /// The instances below this number that were begun, by rising number.

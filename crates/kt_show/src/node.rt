@@ -1,5 +1,5 @@
 //! What a store holds of a node.
-//! Cited by showing.rt.
+//! Cited by showing.rt, showing_json.rt.
 
 ghost use Rattle.std.specs.Prelude.{◌≡◌, ◌++◌, OnOk};
 ghost use Rattle.std.specs.List.{flat_map};
@@ -47,7 +47,11 @@ fn push_node<S: CkptStore>(
 }
 
 /// What is stored of the node.
-fn row_of<S: CkptStore>(store: &mut S, alloc: Global, node: NodeId) -> Result<NodeRow, StoreError>
+pub(crate) fn row_of<S: CkptStore>(
+    store: &mut S,
+    alloc: Global,
+    node: NodeId,
+) -> Result<NodeRow, StoreError>
     ensures { IsGathered S.CkptStore store.old store.new (λ c row. row ≡ row_of c node) result }
 {
     let incarnation = store.incarnation(node)?;

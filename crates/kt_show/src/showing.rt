@@ -1,5 +1,5 @@
 //! The text of what a store holds.
-//! Cited by no other file of crates/.
+//! Cited by other crates.
 
 ghost use Rattle.std.specs.Prelude.{◌≡◌, false, IfErr, IfOk, IsErrOf, IsTrue};
 ghost use Rattle.kt_store.specs.Calls.{NeverFails};

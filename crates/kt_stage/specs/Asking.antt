@@ -1,6 +1,6 @@
 -- What asking a world comes to.
 -- Cited by Allowed, Asked, asking.rt, ending.rt, locked_journal.rt, policy.rt, settling.rt, `policy::first_by`,
---   `settling::next_among`.
+--   `settling::next_among`; other crates.
 use Rattle.std.specs.Prelude.{◌≡◌, Result, IfErr, IfOk, IsTrue}
 use Rattle.kt_store.specs.declared.error.StoreError.{StoreError}
 use Rattle.kt_store.specs.Calls.{NeverFails, counted}

@@ -1,5 +1,5 @@
 -- How a world settles: step after step, each the next one of the first node that has one, until no node has any.
--- Cited by Halts, Settled, settling.rt, `settling::settle`.
+-- Cited by Halts, Settled, settling.rt, `settling::settle`; other crates.
 use Rattle.std.specs.Prelude.{◌≡◌, ◌<◌, ℕ, ◌+◌, Bool, true, false, List, length, slice_get, take, Option, Some, Ok}
 use Rattle.std.specs.Prelude.{IsTrue}
 use Rattle.kt_scenario.specs.declared.step.Step.{Step}

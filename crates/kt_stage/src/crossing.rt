@@ -53,8 +53,9 @@ fn run_state_may_go<S: CkptStore + Send, L: Naming + Send>()
     may_go::<RunState<S, L>>();
 }
 
-/// Threads may share a stage whose store and whose name may go to another thread. It does nothing.
-pub(crate) fn stage_may_be_shared<S: CkptStore + Send, L: Naming + Send>()
+/// Threads may share a stage whose store and whose name may go to another thread. It does nothing: whoever drives seats
+/// by threads of its own calls it first, and the prover has this fact at hand.
+pub fn stage_may_be_shared<S: CkptStore + Send, L: Naming + Send>()
     ensures { IsSync (stage_row S.row L.row S.CkptStore (record { opening = L.opening })
         (record { name = L.name; parts = L.parts })) }
 {

@@ -32,6 +32,7 @@ mod traffic;
 mod waking;
 
 pub use closing::CloseError;
+pub use crossing::stage_may_be_shared;
 pub use ending::unfinished;
 pub use error::ActError;
 pub use gate::{Gate, OpenGate};

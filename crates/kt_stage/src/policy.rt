@@ -1,5 +1,5 @@
 //! What a node does next of itself, while a scenario of fault lines is run.
-//! Cited by ending.rt, locked_journal.rt, settling.rt.
+//! Cited by ending.rt, locked_journal.rt, settling.rt; other crates.
 
 ghost use Rattle.std.specs.Prelude.{◌≡◌, IfOk, IfSome, IsTrue};
 ghost use Rattle.std.specs.List.{list_all};

@@ -1,2 +1,3 @@
-pub mod Grammar
+pub mod Numbers
+pub mod Parsed
 pub mod Statuses

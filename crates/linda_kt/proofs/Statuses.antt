@@ -1,6 +1,6 @@
 -- How a run of the program ends, told from how its command ends.
 -- Cited by `program::run_arguments`, `program::run_program`, `program::run_texts`.
-use Rattle.std.proofs.Common.{◌≡◌, ℕ, List, [], Result, inl, inr, subst}
+use Rattle.std.proofs.Common.{◌≡◌, ℕ, List, [], Option, Result, inl, inr, subst}
 use Rattle.std.specs.Prelude.{◌≢◌}
 use Rattle.clap.specs.Words.{kind_of, HasKind, Kinds, Text}
 use Rattle.clap.specs.declared.error.Error.{Error}
@@ -29,12 +29,14 @@ not_version e memory version = cc
 pub asks_for_no_text : (e : Error) → kind_of e ≡ kind.OutOfMemory → (kind_of e ≢ kind.DisplayHelp) × (kind_of e ≢ kind.DisplayVersion)
 asks_for_no_text e memory = (not_help e memory, not_version e memory)
 
-module _ {S C F : Type 0} (kind : Ghosts S) (gives : Text → Result S F → Type 0) (connects : Text → Result C F → Type 0)
-    (carries : C → Content → Result (Unit {0}) F → Type 0) (before after : Reader) (old new : Writer) (n : ℕ) where
+module _ {S C F G X Y : Type 0} (kind : Ghosts S) (gives : Text → Result S F → Type 0)
+    (copies : Text → Result S G → Type 0) (connects : Text → Result C F → Type 0)
+    (carries : C → Content → Result (Unit {0}) F → Type 0) (remaining : X → Option (List ℕ)) (texts : Text → Result X Y → Type 0)
+    (before after : Reader) (old new : Writer) (n : ℕ) where
   -- what is told of words is told of the same words
   pub told_of_same : (u v : List Text) → u ≡ v
-      → (words_fault u ≡ [] → IsRunStatus kind gives connects carries u before after old new n)
-      → words_fault v ≡ [] → IsRunStatus kind gives connects carries v before after old new n
+      → (words_fault u ≡ [] → IsRunStatus kind gives copies connects carries remaining texts u before after old new n)
+      → words_fault v ≡ [] → IsRunStatus kind gives copies connects carries remaining texts v before after old new n
   told_of_same u v same told =
-      let P : List Text → Type 0 = λ ws. words_fault ws ≡ [] → IsRunStatus kind gives connects carries ws before after old new n in
+      let P : List Text → Type 0 = λ ws. words_fault ws ≡ [] → IsRunStatus kind gives copies connects carries remaining texts ws before after old new n in
       subst P same told

@@ -15,16 +15,20 @@ use Rattle.kt_sql_tables.specs.Held.{Tabled, is_sure}
 use Rattle.kt_sql.specs.declared.error.SqlOpenError.{SqlOpenError}
 use Rattle.kt_sql.specs.declared.error.SqlOpenError.TheVariants.{Device, Mismatch}
 
--- an answer to the opening of the store in the file at a path, by the tables of a store and by what it has counted. A
--- store that was opened has refused no call yet. While the disk is clean it is of this version, and sure just where
--- each row is as said. `:memory:` names no file
-pub record OpensFile {D S : Type 0} (path : Text) (answer : Result S SqlOpenError) (disk : Ghosts D)
-    (tables : S → Tabled D) (counts : S → Counts) : Type 0 where
+-- an answer to the opening of a store, by the tables of a store and by what it has counted. A store that was opened has
+-- refused no call yet. While the disk is clean it is of this version, and sure just where each row is as said
+pub record OpensStore {D S F : Type 0} (answer : Result S F) (disk : Ghosts D) (tables : S → Tabled D)
+    (counts : S → Counts) : Type 0 where
   pub version : IfOk answer (λ s. HasCleanDisk (state disk (tables s).conn)
       → IsThisVersion (state disk (tables s).conn).now)
   pub honest : IfOk answer (λ s. HasCleanDisk (state disk (tables s).conn)
       → (IsTrue (is_sure disk (tables s)) ↔ AreAsSaid (state disk (tables s).conn).now.trees))
   pub new : IfOk answer (λ s. counts s ≡ nothing_counted)
+
+-- an answer to the opening of the store in the file at a path. `:memory:` names no file
+pub record OpensFile {D S : Type 0} (path : Text) (answer : Result S SqlOpenError) (disk : Ghosts D)
+    (tables : S → Tabled D) (counts : S → Counts) : Type 0 where
+  pub store : OpensStore answer disk tables counts
   pub memory : path ≡ codes ":memory:" → answer ≡ Err Device
 
 refused_is_not_opened : {S : Type 0} (store : S) → Ok store ≡ Err Device → ⊥
@@ -35,7 +39,7 @@ pub opened_names_a_file : {D S : Type 0} (path : Text) (store : S) (disk : Ghost
     (counts : S → Counts) → OpensFile path (Ok store) disk tables counts
     → (path ≢ codes ":memory:") × (counts store ≡ nothing_counted)
 opened_names_a_file path store disk tables counts opens =
-    ((λ same. refused_is_not_opened store (opens.memory same)), opens.new)
+    ((λ same. refused_is_not_opened store (opens.memory same)), opens.store.new)
 
 -- an answer to connecting to the file at a path
 abbrev pub ConnectsFile : {C : Type 0} → Text → Result C SqlOpenError → Type 0

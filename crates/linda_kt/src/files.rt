@@ -1,17 +1,23 @@
 //! The stores in files.
-//! Cited by whoever calls the trait `Carries` or `Opens`.
+//! Cited by whoever calls the trait `Carries` or `Holds` or `Opens` or `Shows` or `Texts`.
 ghost use Rattle.std.specs.Prelude.{◌≡◌, false};
 ghost use Rattle.sqlite.specs.Files.{over_files};
-ghost use Rattle.linda_kt.specs.Files.{CarriesFile, ConnectsFile, OpensFile};
+ghost use Rattle.linda_kt.specs.Files.{CarriesFile, ConnectsFile, OpensFile, OpensStore};
 
-use kt_command::{Carries, Opens};
+use crate::copies::{ShowError, copy_aside};
+use crate::holding::Holds;
+use kt_command::{Carries, Opens, Shows, Texts};
 use kt_sql::{SqlOpenError, SqlStore, connect};
 use kt_store::MemStore;
 use sqlite::{Connection, File, FileStore};
 use std::alloc::Global;
-use std::fs;
+use std::{fs, io};
 
-/// Opens the store in a file, or carries it over, by the runtime of the process.
+/// From so many bytes on a log can hold a page: its head, the head of a frame, and a smallest page.
+const LEAST_LOG: u64 = 32 + 24 + 512;
+
+/// Opens the store or the scenario in a file or a copy of a store, or carries a store over, by the runtime of the
+/// process.
 #[derive(Drop)]
 pub struct Files<'a> {
     rt: &'a HostRuntime,
@@ -24,25 +30,75 @@ impl<'a> Files<'a> {
     }
 }
 
+/// The store in a file.
+#[derive(Drop)]
+pub struct StoreInFile {
+    store: SqlStore<FileStore<File>>,
+}
+
+impl Holds<SqlStore<FileStore<File>>> for StoreInFile {
+    ghost held = { λ holder. holder.store };
+
+    fn into_store(self) -> SqlStore<FileStore<File>> {
+        let StoreInFile { store } = self;
+        store
+    }
+
+    /// Copies the log into the database file, so that this file alone holds all. Where that fails, the log still holds
+    /// the rest, and the next opening reads it.
+    fn close(store: SqlStore<FileStore<File>>) {
+        let _ = store.into_connection().close();
+    }
+}
+
 /// What is known of a store that was opened is what `SqlStore::open` says. That the file is the one at the path is not
 /// among it: that is trusted of the call below (docs/CHECKING.md).
-impl Opens<SqlStore<FileStore<File>>, SqlOpenError> for Files<'_> {
-    ghost gives = { λ _ path answer. OpensFile path answer over_files (λ s. s.tables) (λ s. s.counts) };
+impl Opens<StoreInFile, SqlOpenError> for Files<'_> {
+    ghost gives = { λ _ path answer. OpensFile path answer over_files (λ s. s.store.tables) (λ s. s.store.counts) };
 
-    fn open(self, path: &str) -> Result<SqlStore<FileStore<File>>, SqlOpenError> {
+    fn open(self, path: &str) -> Result<StoreInFile, SqlOpenError> {
         let log = log_of(self.rt, path);
         let had_log = has_file(self.rt, log.as_ref());
         let opened = SqlStore::open(self.rt, path);
         if !had_log && opened.as_ref().err() == Some(&SqlOpenError::Damaged) {
             remove_empty(self.rt, log.as_ref());
         }
-        opened
+        match opened {
+            Ok(store) => Ok(StoreInFile { store }),
+            Err(error) => Err(error),
+        }
     }
 
-    /// Copies the log into the database file, so that this file alone holds all. Where that fails, the log still holds
-    /// the rest, and the next opening reads it.
-    fn put_away(store: SqlStore<FileStore<File>>) {
-        let _ = store.into_connection().close();
+    fn put_away(opened: StoreInFile) {
+        StoreInFile::close(opened.into_store());
+    }
+}
+
+/// Opens the scenario in a file.
+impl Texts<fs::File, io::Error> for Files<'_> {
+    ghost use Rattle.std.specs.Prelude.{⊤};
+
+    ghost gives_text = { λ _ _ _. ⊤ };
+
+    fn open_text(&self, path: &str) -> io::Result<fs::File> {
+        fs::File::open(self.rt, path)
+    }
+}
+
+/// What is known of a copy that was opened is what `SqlStore::open` says. That it holds what the file at the path holds
+/// is not among it: that is trusted of the calls below (docs/CHECKING.md).
+impl Shows<StoreInFile, ShowError> for Files<'_> {
+    ghost gives_copy = { λ _ _ answer. OpensStore answer over_files (λ s. s.store.tables) (λ s. s.store.counts) };
+
+    fn open_copy(self, path: &str) -> Result<StoreInFile, ShowError> {
+        let copy = copy_aside(self.rt, path)?;
+        let opened = SqlStore::open(self.rt, copy.path());
+        // The store has its files open, and wants their names no more.
+        copy.remove(self.rt);
+        match opened {
+            Ok(store) => Ok(StoreInFile { store }),
+            Err(error) => Err(ShowError::Open(error)),
+        }
     }
 }
 
@@ -59,13 +115,13 @@ fn has_file(rt: &HostRuntime, path: Option<&String>) -> bool {
     }
 }
 
-/// Removes the file where it is there and empty: the log of a file that is no store, which opening it has made.
+/// Removes the file where it is there and holds no page: the log of a file that is no store, which opening it has made.
 fn remove_empty(rt: &HostRuntime, path: Option<&String>) {
     let Some(path) = path else {
         return;
     };
     let is_empty = match fs::File::open(rt, path.as_str()) {
-        Ok(file) => matches!(file.metadata(), Ok(known) if known.len() == 0),
+        Ok(file) => matches!(file.metadata(), Ok(known) if known.len() < LEAST_LOG),
         Err(_) => false,
     };
     if is_empty {

@@ -1,6 +1,6 @@
 //! What the program does with its words and its three streams.
 //! Cited by no other file of crates/.
-ghost use Rattle.std.specs.Prelude.{◌≡◌, ◌≢◌, ◌⊎◌, [], IsErr, IfErr, IfOk};
+ghost use Rattle.std.specs.Prelude.{◌≡◌, ◌≢◌, ◌⊎◌, [], IsErr, IfErr, IfOk, true};
 ghost use Rattle.std.specs.IoError.{error_kind};
 ghost use Rattle.std.specs.declared.io.ErrorKind.TheVariants as io_kind;
 ghost use Rattle.std.specs.Vec.Iter.{into_iter_items};
@@ -8,13 +8,15 @@ ghost use Rattle.clap.specs.Words.{kind_of};
 ghost use Rattle.clap.specs.declared.error.kind.ErrorKind.TheVariants as kind;
 ghost use Rattle.kt_command.specs.Command.{texts, words_behind};
 ghost use Rattle.linda_kt.specs.Status.{IsRunStatus, IsWordsStatus};
-ghost use Rattle.linda_kt.specs.Words.{AreWrong, words_fault};
+ghost use Rattle.linda_kt.specs.Words.{AreWrong, are_silent, words_fault};
 
+use crate::holding::{Holding, Holds};
 use crate::words::{read_words, refuse_bytes};
 use clap::Error;
 use clap::error::ErrorKind;
 use kt_command::{
-    COMMAND_LINE, Carries, DONE, MEMORY, Opens, STREAM, run_request, texts_of, words_behind,
+    COMMAND_LINE, Carries, DONE, MEMORY, Opens, STREAM, Shows, Terminals, Texts, run_request,
+    texts_of, words_behind,
 };
 use kt_scene::{Outcome, Sink, Source};
 use kt_sql::{SqlOpenError, SqlStore};
@@ -22,18 +24,23 @@ use kt_store::CkptStore;
 use sqlite::Alter;
 use std::alloc::{AllocError, Global};
 use std::env::Args;
+use std::fmt::Display;
 use std::io;
 use std::io::{Read, Write};
 use std::sync::Wait;
 use std::thread::Threads;
 
-/// Runs the program on the arguments of its process, of which the first is its name. Arguments that
-/// are not text are wrong words. The store in a file is opened by `opener`, and a run starts its
-/// threads by `threads`.
-pub fn run_arguments<
+/// Runs the program as `run_arguments` does, by an opener of holders of stores, and says nothing of it. The contract is
+/// that of `run_arguments` for `Holding`: at the types of a process it is too large to be looked at, and the process
+/// wants nothing of it.
+pub fn run_process<
     D: Alter + Drop + Send,
+    H: Holds<SqlStore<D>>,
     C: Drop,
-    O: Opens<SqlStore<D>, SqlOpenError> + Carries<C, SqlOpenError>,
+    G: Display + Drop,
+    X: Read + Drop,
+    Y: Display + Drop,
+    O: Opens<H, SqlOpenError> + Carries<C, SqlOpenError> + Shows<H, G> + Texts<X, Y>,
     T: Threads + Wait + Sync,
     R: Read,
     W: Write,
@@ -46,15 +53,54 @@ pub fn run_arguments<
     reader: &mut Source<R>,
     writer: &mut Sink<W>,
     errors: &mut E,
-    is_watched: bool,
+    terminals: Terminals,
+) -> u8 {
+    run_arguments::<D, C, G, X, Y, Holding<O, H>, T, R, W, E>(
+        Holding::new(opener),
+        threads,
+        alloc,
+        arguments,
+        reader,
+        writer,
+        errors,
+        terminals,
+    )
+}
+
+/// Runs the program on the arguments of its process, of which the first is its name. Arguments that
+/// are not text are wrong words. The store in a file and the scenario in one are opened by `opener`, and a run starts
+/// its threads by `threads`.
+pub fn run_arguments<
+    D: Alter + Drop + Send,
+    C: Drop,
+    G: Display + Drop,
+    X: Read + Drop,
+    Y: Display + Drop,
+    O: Opens<SqlStore<D>, SqlOpenError>
+        + Carries<C, SqlOpenError>
+        + Shows<SqlStore<D>, G>
+        + Texts<X, Y>,
+    T: Threads + Wait + Sync,
+    R: Read,
+    W: Write,
+    E: Write,
+>(
+    opener: O,
+    threads: &T,
+    alloc: Global,
+    arguments: io::Result<Args>,
+    reader: &mut Source<R>,
+    writer: &mut Sink<W>,
+    errors: &mut E,
+    terminals: Terminals,
 ) -> u8
     ensures no_text { IsErr arguments → (result ≡ COMMAND_LINE) ⊎ (result ≡ MEMORY) }
     ensures no_memory { IfErr arguments (λ e. error_kind e ≡ io_kind.OutOfMemory → result ≡ MEMORY) }
     ensures no_text_reads_nothing { IsErr arguments → reader.new ≡ reader.old }
     ensures no_text_prints_nothing { IsErr arguments → writer.new ≡ writer.old }
     ensures told { IfOk arguments (λ a. words_fault (words_behind (into_iter_items a)) ≡ []
-        → IsRunStatus ⟦<SqlStore<D> as CkptStore>⟧ (O.gives opener) (O.connects opener)
-        O.carries (words_behind (into_iter_items a))
+        → IsRunStatus ⟦<SqlStore<D> as CkptStore>⟧ (O.gives opener) (O.gives_copy opener) (O.connects opener)
+        O.carries X.remaining (O.gives_text opener) (words_behind (into_iter_items a))
         reader.old reader.new writer.old writer.new result) }
     ensures wrong_words { IfOk arguments (λ a. AreWrong (words_behind (into_iter_items a))
         → (result ≡ COMMAND_LINE) ⊎ (result ≡ MEMORY)) }
@@ -64,7 +110,8 @@ pub fn run_arguments<
         → IsWordsStatus result) }
     ensures no_command_reads_nothing { IfOk arguments (λ a. words_fault (words_behind (into_iter_items a)) ≢ []
         → reader.new ≡ reader.old) }
-    ensures done_without_a_word { result ≡ DONE → errors.new ≡ errors.old }
+    ensures done_without_a_word { IfOk arguments (λ a.
+        are_silent terminals (words_behind (into_iter_items a)) ≡ true → result ≡ DONE → errors.new ≡ errors.old) }
 {
     let texts = match arguments {
         Ok(arguments) => texts_of(alloc, arguments),
@@ -75,7 +122,7 @@ pub fn run_arguments<
     };
     match texts {
         Ok(texts) => run_texts(
-            opener, threads, alloc, &texts, reader, writer, errors, is_watched,
+            opener, threads, alloc, &texts, reader, writer, errors, terminals,
         ),
         Err(AllocError) => end_by("memory", MEMORY, errors),
     }
@@ -85,7 +132,13 @@ pub fn run_arguments<
 fn run_texts<
     D: Alter + Drop + Send,
     C: Drop,
-    O: Opens<SqlStore<D>, SqlOpenError> + Carries<C, SqlOpenError>,
+    G: Display + Drop,
+    X: Read + Drop,
+    Y: Display + Drop,
+    O: Opens<SqlStore<D>, SqlOpenError>
+        + Carries<C, SqlOpenError>
+        + Shows<SqlStore<D>, G>
+        + Texts<X, Y>,
     T: Threads + Wait + Sync,
     R: Read,
     W: Write,
@@ -98,17 +151,18 @@ fn run_texts<
     reader: &mut Source<R>,
     writer: &mut Sink<W>,
     errors: &mut E,
-    is_watched: bool,
+    terminals: Terminals,
 ) -> u8
     ensures told { words_fault (words_behind arguments.now) ≡ []
-        → IsRunStatus ⟦<SqlStore<D> as CkptStore>⟧ (O.gives opener) (O.connects opener)
-        O.carries (words_behind arguments.now)
+        → IsRunStatus ⟦<SqlStore<D> as CkptStore>⟧ (O.gives opener) (O.gives_copy opener) (O.connects opener)
+        O.carries X.remaining (O.gives_text opener) (words_behind arguments.now)
         reader.old reader.new writer.old writer.new result }
     ensures wrong_words { AreWrong (words_behind arguments.now) → (result ≡ COMMAND_LINE) ⊎ (result ≡ MEMORY) }
     ensures wrong_words_print_nothing { AreWrong (words_behind arguments.now) → writer.new ≡ writer.old }
     ensures no_command { words_fault (words_behind arguments.now) ≢ [] → IsWordsStatus result }
     ensures no_command_reads_nothing { words_fault (words_behind arguments.now) ≢ [] → reader.new ≡ reader.old }
-    ensures done_without_a_word { result ≡ DONE → errors.new ≡ errors.old }
+    ensures done_without_a_word { are_silent terminals (words_behind arguments.now) ≡ true → result ≡ DONE
+        → errors.new ≡ errors.old }
 {
     match words_behind(alloc, arguments) {
         Ok(words) => run_program(
@@ -119,7 +173,7 @@ fn run_texts<
             reader,
             writer,
             errors,
-            is_watched,
+            terminals,
         ),
         Err(AllocError) => end_by("memory", MEMORY, errors),
     }
@@ -131,7 +185,13 @@ fn run_texts<
 pub fn run_program<
     D: Alter + Drop + Send,
     C: Drop,
-    O: Opens<SqlStore<D>, SqlOpenError> + Carries<C, SqlOpenError>,
+    G: Display + Drop,
+    X: Read + Drop,
+    Y: Display + Drop,
+    O: Opens<SqlStore<D>, SqlOpenError>
+        + Carries<C, SqlOpenError>
+        + Shows<SqlStore<D>, G>
+        + Texts<X, Y>,
     T: Threads + Wait + Sync,
     R: Read,
     W: Write,
@@ -144,13 +204,14 @@ pub fn run_program<
     reader: &mut Source<R>,
     writer: &mut Sink<W>,
     errors: &mut E,
-    is_watched: bool,
+    terminals: Terminals,
 ) -> u8
     ensures told { words_fault (texts words.now) ≡ []
-        → IsRunStatus ⟦<SqlStore<D> as CkptStore>⟧ (O.gives opener) (O.connects opener)
-        O.carries (texts words.now)
+        → IsRunStatus ⟦<SqlStore<D> as CkptStore>⟧ (O.gives opener) (O.gives_copy opener) (O.connects opener)
+        O.carries X.remaining (O.gives_text opener) (texts words.now)
         reader.old reader.new writer.old writer.new result }
-    ensures done_without_a_word { result ≡ DONE → errors.new ≡ errors.old }
+    ensures done_without_a_word { are_silent terminals (texts words.now) ≡ true → result ≡ DONE
+        → errors.new ≡ errors.old }
     ensures wrong_words { AreWrong (texts words.now)
         → (result ≡ COMMAND_LINE) ⊎ (result ≡ MEMORY) }
     ensures wrong_words_print_nothing { AreWrong (texts words.now) → writer.new ≡ writer.old }
@@ -160,7 +221,7 @@ pub fn run_program<
 {
     match read_words(alloc, words) {
         Ok(request) => run_request(
-            opener, threads, alloc, request, is_watched, reader, writer, errors,
+            opener, threads, alloc, request, terminals, reader, writer, errors,
         ),
         Err(error) => answer_words(&error, writer, errors),
     }

@@ -1,242 +1,237 @@
-//! The words of the command line.
-//! Cited by program.rt.
-ghost use Rattle.std.specs.Prelude.{◌≡◌, ◌⊎◌, false, IfErr, IfOk, Some};
-ghost use Rattle.clap.specs.Words.{app_of, FailsBy, found_of, kind_of, rows_of, rule_of};
-ghost use Rattle.clap.specs.declared.builder.command.Command.TheViews.{out-Command as fields_of};
-ghost use Rattle.clap.specs.Simple.{shape_of};
-ghost use Rattle.kt_command.specs.Asking.{asked};
+//! What the words of the command line ask.
+//! Cited by program.rt, trials.rt.
+ghost use Rattle.std.specs.Prelude.{◌≡◌, ◌⊎◌, ◌∷◌, [], IfOk, Some, option_map};
+ghost use Rattle.clap.specs.Words.{FailsBy, HasKind, first_of, found_of, kind_of, rows_of};
+ghost use Rattle.kt_command.specs.Asking.{asked, task_of};
 ghost use Rattle.kt_command.specs.Command.{texts};
-ghost use Rattle.linda_kt.specs.Words.{asked_by, command_line_app, explain_rule, has_flag, journal_rule};
-ghost use Rattle.linda_kt.specs.Words.{kept_store_rule};
-ghost use Rattle.linda_kt.specs.Words.{migrate_shape, old_store_rule, opening_app, program_app, replay_shape};
-ghost use Rattle.linda_kt.specs.Words.{resume_rule, resume_shape, run_shape, running_app, store_rule, words_fault};
+ghost use Rattle.linda_kt.specs.Words.{asked_by, asked_of, done_of, has_flag, kinds_of, made_of, reads};
+ghost use Rattle.linda_kt.specs.Words.{required_text, run_or_made_of, scenario_of, telling_of, told_as, words_fault};
 
+use crate::grammar::command_line;
+use crate::trials::{chaos_of, repeated_of};
 use clap::error::ErrorKind;
-use clap::{Arg, ArgAction, ArgMatches, Error};
-use kt_command::{Command, Request};
+use clap::{ArgMatches, Error};
+use kt_command::{Command, Request, Task, Telling};
+use kt_words::Shell;
 use std::alloc::{AllocError, Global};
 
-/// What the words ask: a command and the file of its store, or the file that is to be carried over. The words are those
-/// after the program's name. Any other words are an error of `clap`, whose text is for the user.
+/// Why words that the grammar lets pass ask nothing. It can't say that one word wants another.
+#[derive(Clone, Copy, Debug, PartialEq, Eq)]
+pub enum Misfit {
+    /// They name no command.
+    NoCommand,
+    /// A run is to go on from a file, and none is named.
+    NoFile,
+    /// No shell has the name.
+    NoShell,
+    /// How often is no number, or not within its limits.
+    WrongTimes,
+    /// How many random fault lines is no number, or not within its limits.
+    WrongChaos,
+    /// The seed is no number, or has more than 64 bits.
+    WrongSeed,
+    /// Random fault lines are asked for, and no seed is named.
+    NoSeed,
+    /// A seed is named, and no random fault lines are asked for.
+    NoChaos,
+    /// Several runs are asked for, and something that only one run can have.
+    OneRun,
+}
+
+/// What the words ask. The words are those after the program's name. Words that ask nothing are an error of `clap`,
+/// whose text is for the user.
 pub fn read_words<'a>(alloc: Global, words: &'a [&'a str]) -> Result<Request<'a>, Error>
     ensures command { IfOk result (λ r. asked_by (texts words.entry.now) ≡ Some (asked r)) }
     ensures refused { FailsBy (words_fault (texts words.entry.now)) result }
 {
     let matches = command_line(alloc)?.try_get_matches_from(words)?;
-    // Words that pass have one of the names.
-    let (name, options) = matches.subcommand().unwrap();
-    let store = options.get_str("store");
-    let is_resumed = has_flag(options, "resume");
-    if is_resumed && store.is_none() {
-        return Err(forgotten_file(alloc));
+    let Some((name, options)) = matches.subcommand() else {
+        return Err(refuse(alloc, Misfit::NoCommand));
+    };
+    match request_of(name, options) {
+        Ok(request) => Ok(request),
+        Err(misfit) => Err(refuse(alloc, misfit)),
     }
-    if name == "migrate" {
-        // Words that pass name the file, so no request has the empty text.
-        let store = store.unwrap_or("");
-        return Ok(Request::Migrate { store });
+}
+
+/// What a command and its own words ask.
+fn request_of<'a>(name: &str, options: &ArgMatches<'a>) -> Result<Request<'a>, Misfit>
+    ensures { told_as asked result ≡ asked_of name.now (rows_of (found_of options.now)) }
+{
+    if name == "show" {
+        Ok(Request::Show {
+            store: required_text(options, "store"),
+            is_json: has_flag(options, "json"),
+        })
+    } else if name == "explain" {
+        let word = required_text(options, "meaning");
+        Ok(Request::Explain { word })
+    } else if name == "completion" {
+        match Shell::of_name(required_text(options, "shell")) {
+            Some(shell) => Ok(Request::Completion { shell }),
+            None => Err(Misfit::NoShell),
+        }
+    } else if name == "manual" {
+        Ok(Request::Manual)
+    } else {
+        read_request_of(name, options)
     }
-    let command = Command::of_name(name, is_resumed, has_flag(options, "journal")).unwrap();
-    let is_explained = has_flag(options, "explain");
-    Ok(Request::Make {
-        command,
-        store,
-        is_explained,
+}
+
+/// What a command asks that reads a scenario.
+fn read_request_of<'a>(name: &str, options: &ArgMatches<'a>) -> Result<Request<'a>, Misfit>
+    ensures { told_as asked result ≡ reads (rows_of (found_of options.now))
+        (done_of name.now (rows_of (found_of options.now))) }
+{
+    let task = task_of(name, options)?;
+    Ok(Request::Read {
+        task,
+        file: scenario_of(options),
+        telling: telling_of(options),
     })
 }
 
+/// What is done with a scenario by a command of this name.
+fn task_of<'a>(name: &str, options: &ArgMatches<'a>) -> Result<Task<'a>, Misfit>
+    ensures { told_as task_of result ≡ done_of name.now (rows_of (found_of options.now)) }
+{
+    if name == "check" {
+        Ok(Task::Check)
+    } else if name == "complete" {
+        Ok(Task::Complete)
+    } else if name == "migrate" {
+        let store = required_text(options, "store");
+        Ok(Task::Migrate { store })
+    } else {
+        run_or_made_of(name, options)
+    }
+}
+
+/// What a command and its own words ask that may ask for several runs.
+fn run_or_made_of<'a>(name: &str, options: &ArgMatches<'a>) -> Result<Task<'a>, Misfit>
+    ensures { told_as task_of result ≡ run_or_made_of name.now (rows_of (found_of options.now)) }
+{
+    match text_of(options, "times") {
+        Some(times) => repeated_of(times, options),
+        None => made_of(name, options),
+    }
+}
+
+/// What a command over a store and its own words ask.
+fn made_of<'a>(name: &str, options: &ArgMatches<'a>) -> Result<Task<'a>, Misfit>
+    ensures { told_as task_of result ≡ made_of name.now (rows_of (found_of options.now)) }
+{
+    let store = text_of(options, "store");
+    let is_resumed = has_flag(options, "resume");
+    if is_resumed && store.is_none() {
+        return Err(Misfit::NoFile);
+    }
+    let chaos = chaos_of(options)?;
+    match Command::of_name(name, is_resumed, has_flag(options, "journal")) {
+        Some(command) => Ok(Task::Make {
+            command: command.with_chaos(chaos),
+            store,
+        }),
+        None => Err(Misfit::NoCommand),
+    }
+}
+
+/// The file of the scenario that a command's words name; none for standard input, of which `-` is a name.
+fn scenario_of<'a>(options: &ArgMatches<'a>) -> Option<&'a str>
+    ensures { option_map (λ s. s.now) result ≡ scenario_of (rows_of (found_of options.now)) }
+{
+    match text_of(options, "scenario") {
+        Some(file) if file != "-" => Some(file),
+        _ => None,
+    }
+}
+
+/// How what happened is to be explained: as JSON where that is asked for, whether or not `--explain` stands there too.
+fn telling_of(options: &ArgMatches<'_>) -> Telling
+    ensures { result ≡ telling_of (rows_of (found_of options.now)) }
+{
+    if has_flag(options, "json") {
+        Telling::Json
+    } else if has_flag(options, "explain") {
+        Telling::Words
+    } else {
+        Telling::Nothing
+    }
+}
+
+/// The text of an option, or none.
+pub(crate) fn text_of<'a>(options: &ArgMatches<'a>, id: &str) -> Option<&'a str>
+    ensures { option_map (λ s. s.now) result ≡ first_of id.now (rows_of (found_of options.now)) }
+{
+    options.get_str(id)
+}
+
+/// The text of a word that must stand. Words that pass the grammar have it, so no request has the empty text.
+fn required_text<'a>(options: &ArgMatches<'a>, id: &str) -> &'a str
+    ensures { result.now ≡ required_text (first_of id.now (rows_of (found_of options.now))) }
+{
+    match text_of(options, id) {
+        Some(text) => text,
+        None => "",
+    }
+}
+
 /// Whether the flag stands among a command's words.
-fn has_flag(options: &ArgMatches<'_>, flag: &str) -> bool
+pub(crate) fn has_flag(options: &ArgMatches<'_>, flag: &str) -> bool
     ensures { result ≡ has_flag flag.now (rows_of (found_of options.now)) }
 {
     // Of a flag that stands there the text is that of `true`.
-    match options.get_str(flag) {
+    match text_of(options, flag) {
         Some(text) => text == "true",
         None => false,
     }
 }
 
-/// The error for a run that is to go on from a file and names none. The grammar can't say that one word wants another.
-fn forgotten_file(alloc: Global) -> Error
-    ensures { (kind_of result ≡ ErrorKind.MissingRequiredArgument) ⊎ (kind_of result ≡ ErrorKind.OutOfMemory) }
+/// The error for words that do not fit together.
+fn refuse(alloc: Global, misfit: Misfit) -> Error
+    ensures { HasKind (kinds_of misfit) result }
 {
-    match refusal(
-        alloc,
-        ErrorKind::MissingRequiredArgument,
-        "the argument '--resume' wants '--store <FILE>'",
-    ) {
+    let words = words_for(misfit);
+    match misfit {
+        Misfit::NoCommand => refuse_as(alloc, ErrorKind::MissingSubcommand, words),
+        Misfit::NoFile | Misfit::NoSeed | Misfit::NoChaos => {
+            refuse_as(alloc, ErrorKind::MissingRequiredArgument, words)
+        }
+        Misfit::NoShell => refuse_as(alloc, ErrorKind::InvalidValue, words),
+        Misfit::WrongTimes | Misfit::WrongChaos | Misfit::WrongSeed => {
+            refuse_as(alloc, ErrorKind::ValueValidation, words)
+        }
+        Misfit::OneRun => refuse_as(alloc, ErrorKind::ArgumentConflict, words),
+    }
+}
+
+/// An error of this kind that says so, or the want of memory for it.
+fn refuse_as(alloc: Global, kind: ErrorKind, message: &str) -> Error
+    ensures { HasKind (kind ∷ []) result }
+{
+    match refusal(alloc, kind, message) {
         Ok(error) => error,
         Err(error) => Error::from(error),
     }
 }
 
-/// The grammar of the command line: one subcommand, which must be there.
-fn command_line<'a>(alloc: Global) -> Result<clap::Command<'a>, AllocError>
-    ensures { IfOk result (λ c. app_of c ≡ command_line_app) }
-{
-    let migrate = migrate_command(alloc)?;
-    running_commands(alloc)?.subcommand(migrate)
-}
-
-/// The grammar with the commands over a store alone.
-fn running_commands<'a>(alloc: Global) -> Result<clap::Command<'a>, AllocError>
-    ensures app { IfOk result (λ c. app_of c ≡ running_app) }
-    ensures local { IfOk result (λ c. (fields_of c).has_globals ≡ false) }
-{
-    let resume = resume_command(alloc)?;
-    opening_commands(alloc)?.subcommand(resume)
-}
-
-/// The grammar with the commands that a store in memory is enough for.
-fn opening_commands<'a>(alloc: Global) -> Result<clap::Command<'a>, AllocError>
-    ensures app { IfOk result (λ c. app_of c ≡ opening_app) }
-    ensures local { IfOk result (λ c. (fields_of c).has_globals ≡ false) }
-{
-    let replay = replay_command(alloc)?;
-    let run = run_command(alloc)?;
-    described(alloc)
-        .bin_name("linda_kt")?
-        .no_binary_name(true)
-        .subcommand_required(true)
-        .disable_help_subcommand(true)
-        .subcommand(replay)?
-        .subcommand(run)
-}
-
-/// `replay` with its option and its flag.
-fn replay_command<'a>(alloc: Global) -> Result<clap::Command<'a>, AllocError>
-    ensures shape { IfOk result (λ c. shape_of c ≡ replay_shape) }
-    ensures local { IfOk result (λ c. (fields_of c).has_globals ≡ false) }
-{
-    let replay = clap::Command::new(alloc, "replay").about(
-        "Makes the steps of the scenario on standard input and writes the report to standard output",
-    );
-    replay.arg(store_option(alloc))?.arg(explain_flag(alloc))
-}
-
-/// `resume` with its option, which must stand, and its flag.
-fn resume_command<'a>(alloc: Global) -> Result<clap::Command<'a>, AllocError>
-    ensures shape { IfOk result (λ c. shape_of c ≡ resume_shape) }
-    ensures local { IfOk result (λ c. (fields_of c).has_globals ≡ false) }
-{
-    let resume = clap::Command::new(alloc, "resume").about(
-        "Goes on from a store after the program was stopped: makes the steps of the scenario on standard input and \
-         writes the report to standard output",
-    );
-    resume
-        .arg(kept_store_option(alloc))?
-        .arg(explain_flag(alloc))
-}
-
-/// `run` with its option and its flags.
-fn run_command<'a>(alloc: Global) -> Result<clap::Command<'a>, AllocError>
-    ensures shape { IfOk result (λ c. shape_of c ≡ run_shape) }
-    ensures local { IfOk result (λ c. (fields_of c).has_globals ≡ false) }
-{
-    let run = clap::Command::new(alloc, "run").about(
-        "Runs the scenario on standard input, by a thread for each node, and writes the report to standard output",
-    );
-    run.arg(store_option(alloc))?
-        .arg(journal_flag(alloc))?
-        .arg(resume_flag(alloc))?
-        .arg(explain_flag(alloc))
-}
-
-/// `migrate` with its option, which must stand.
-fn migrate_command<'a>(alloc: Global) -> Result<clap::Command<'a>, AllocError>
-    ensures shape { IfOk result (λ c. shape_of c ≡ migrate_shape) }
-    ensures local { IfOk result (λ c. (fields_of c).has_globals ≡ false) }
-{
-    let migrate = clap::Command::new(alloc, "migrate").about(
-        "Carries a store of version 1 over, by the journal on standard input that made it, and writes the report to \
-         standard output",
-    );
-    migrate.arg(old_store_option(alloc))
-}
-
-/// `--journal`.
-fn journal_flag<'a>(alloc: Global) -> Arg<'a>
-    ensures rule { rule_of result ≡ journal_rule }
-    ensures local { result.global ≡ false }
-{
-    Arg::new(alloc, "journal")
-        .long("journal")
-        .action(ArgAction::SetTrue)
-        .help(
-            "Writes the report as remarks, and then the steps that were made, as a scenario for replay or resume",
-        )
-}
-
-/// `--resume`.
-fn resume_flag<'a>(alloc: Global) -> Arg<'a>
-    ensures rule { rule_of result ≡ resume_rule }
-    ensures local { result.global ≡ false }
-{
-    Arg::new(alloc, "resume")
-        .long("resume")
-        .action(ArgAction::SetTrue)
-        .help(
-            "Goes on from what FILE holds, after the program was stopped; it need not be fresh then",
-        )
-}
-
-/// `--explain`.
-fn explain_flag<'a>(alloc: Global) -> Arg<'a>
-    ensures rule { rule_of result ≡ explain_rule }
-    ensures local { result.global ≡ false }
-{
-    Arg::new(alloc, "explain")
-        .long("explain")
-        .action(ArgAction::SetTrue)
-        .help(
-            "Says behind the line of a fault why it came; on a terminal that is so without the flag",
-        )
-}
-
-/// `--store FILE`.
-fn store_option<'a>(alloc: Global) -> Arg<'a>
-    ensures rule { rule_of result ≡ store_rule }
-    ensures local { result.global ≡ false }
-{
-    Arg::new(alloc, "store")
-        .long("store")
-        .value_name("FILE")
-        .help("Keeps the checkpoints in FILE, which is absent, empty or a fresh store")
-}
-
-/// `--store FILE` of `resume`.
-fn kept_store_option<'a>(alloc: Global) -> Arg<'a>
-    ensures rule { rule_of result ≡ kept_store_rule }
-    ensures local { result.global ≡ false }
-{
-    Arg::new(alloc, "store")
-        .long("store")
-        .value_name("FILE")
-        .required(true)
-        .help(
-            "The store to go on from; one that is absent, empty or fresh was stopped before its first write",
-        )
-}
-
-/// `--store FILE` of `migrate`.
-fn old_store_option<'a>(alloc: Global) -> Arg<'a>
-    ensures rule { rule_of result ≡ old_store_rule }
-    ensures local { result.global ≡ false }
-{
-    Arg::new(alloc, "store")
-        .long("store")
-        .value_name("FILE")
-        .required(true)
-        .help("The store of version 1, which holds what the journal makes and nothing else")
-}
-
-/// The program's name, what it is, and its version.
-fn described<'a>(alloc: Global) -> clap::Command<'a>
-    ensures app { app_of result ≡ program_app }
-    ensures local { (fields_of result).has_globals ≡ false }
-{
-    clap::Command::new(alloc, "linda_kt")
-        .about("A Linda tuple space that survives failures")
-        .version("0.1.0")
+/// What that error says.
+fn words_for(misfit: Misfit) -> &'static str {
+    match misfit {
+        Misfit::NoCommand => "the words name no command",
+        Misfit::NoFile => "the argument '--resume' wants '--store <FILE>'",
+        Misfit::NoShell => "the words that complete a shell are there for bash, zsh and fish",
+        Misfit::WrongTimes => "the argument '--times <N>' wants a number from 1 to 10000",
+        Misfit::WrongChaos => "the argument '--chaos <N>' wants a number from 1 to 10000",
+        Misfit::WrongSeed => {
+            "the argument '--seed <K>' wants a number from 0 to 18446744073709551615"
+        }
+        Misfit::NoSeed => "the argument '--chaos <N>' wants '--seed <K>'",
+        Misfit::NoChaos => "the argument '--seed <K>' wants '--chaos <N>'",
+        Misfit::OneRun => {
+            "the argument '--times <N>' cannot be used with '--store', '--journal', '--resume' or '--chaos'"
+        }
+    }
 }
 
 /// The error for words that are not text.

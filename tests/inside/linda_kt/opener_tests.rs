@@ -1,8 +1,8 @@
 //! The program over an opener that notes what it is asked.
-//! Cited by whoever calls the trait `Carries` or `Opens`.
+//! Cited by whoever calls the trait `Carries` or `Opens` or `Shows` or `Texts`.
 use crate::program::run_program;
-use crate::tests::{PUT_AND_TAKE, PUT_AND_TAKE_REPORT};
-use kt_command::{Carries, Opens};
+use crate::tests::{NOBODY, PUT_AND_TAKE, PUT_AND_TAKE_REPORT};
+use kt_command::{Carries, Opens, Shows, Texts};
 use kt_scene::{Sink, Source};
 use kt_sql::{SqlOpenError, SqlStore};
 use sqlite::{Connection, MemStore};
@@ -33,6 +33,32 @@ impl Opens<SqlStore<MemStore>, SqlOpenError> for Noting<'_> {
 
     fn put_away(store: SqlStore<MemStore>) {
         drop(store);
+    }
+}
+
+/// The one scenario that it knows.
+impl<'a> Texts<&'a [u8], &'static str> for Noting<'a> {
+    ghost use Rattle.std.specs.Prelude.{⊤};
+
+    ghost gives_text = { λ _ _ _. ⊤ };
+
+    fn open_text(&self, path: &str) -> Result<&'a [u8], &'static str> {
+        if path == "a.scn" {
+            Ok(PUT_AND_TAKE.as_bytes())
+        } else {
+            Err("no such file")
+        }
+    }
+}
+
+/// A copy of the store at that path is a fresh one too.
+impl Shows<SqlStore<MemStore>, SqlOpenError> for Noting<'_> {
+    ghost use Rattle.std.specs.Prelude.{⊤};
+
+    ghost gives_copy = { λ _ _ _. ⊤ };
+
+    fn open_copy(self, path: &str) -> Result<SqlStore<MemStore>, SqlOpenError> {
+        self.open(path)
     }
 }
 
@@ -69,8 +95,13 @@ impl Carries<Connection<MemStore>, SqlOpenError> for Noting<'_> {
     }
 }
 
+/// What the name means.
+const NOT_FRESH: &str =
+    "store NotFresh: the file holds something of an earlier command: take a new file, or go on \
+with `resume`\n";
+
 /// Words, how often the opener of `a.db` is asked, the output, the line on the errors, and the status.
-const ROWS: [(&[&str], u32, &str, &str, u8); 9] = [
+const ROWS: [(&[&str], u32, &str, &str, u8); 15] = [
     (&["replay"], 0, PUT_AND_TAKE_REPORT, "", 0),
     (
         &["replay", "--store", "a.db"],
@@ -98,6 +129,24 @@ const ROWS: [(&[&str], u32, &str, &str, u8); 9] = [
         5,
     ),
     (&["replay", "--store=b.db"], 1, "", "store: Damaged\n", 5),
+    (&["replay", "a.scn"], 0, PUT_AND_TAKE_REPORT, "", 0),
+    (&["replay", "-"], 0, PUT_AND_TAKE_REPORT, "", 0),
+    (
+        &["replay", "--store", "a.db", "a.scn"],
+        1,
+        PUT_AND_TAKE_REPORT,
+        "",
+        0,
+    ),
+    (
+        &["check", "b.scn"],
+        0,
+        "",
+        "scenario: b.scn: no such file\n",
+        7,
+    ),
+    (&["check", "a.scn"], 0, "steps 7\n", "", 0),
+    (&["explain", "NotFresh"], 0, NOT_FRESH, "", 0),
 ];
 
 /// The opener is asked once, for the path that is named, and not at all where none is.
@@ -122,7 +171,7 @@ fn asks_the_opener_once(rt: HostRuntime) -> Result<(), Fail> {
             &mut reader,
             &mut writer,
             &mut errors,
-            false,
+            NOBODY,
         );
         assert_eq!(rt; asked.get(), *times, "{words:?}");
         assert!(rt;

@@ -32,6 +32,23 @@ fn threads_and_a_fault(rt: HostRuntime) -> Result<(), Fail> {
     Ok(())
 }
 
+/// How often each report came; and the random fault lines before a report, of which none is ever due here.
+#[test]
+fn several_runs_and_random_faults(rt: HostRuntime) -> Result<(), Fail> {
+    let tally = run(&rt, &rt, &["run", "--times", "3"], THREADS_AND_A_FAULT)?;
+    let lines = tally.output.as_str().strip_prefix("# 3 of 3 runs\n");
+    assert!(rt; lines == Some(THREADS_AND_A_FAULT_REPORT));
+    assert!(rt; tally.errors.is_empty() && tally.status == 0);
+    let words = ["run", "--chaos", "2", "--seed", "7"];
+    let few = "linda-kt 1\nshards 1\nworker\nout (1)\nfaults\nend\n";
+    let shaken = run(&rt, &rt, &words, few)?;
+    let told = "# fail w1 after 5\n# check w1 after 14\n\
+survivors 1\nw1.1 out (1) done\nlost 0\nspace 1\n(1)\npermanent 0\n";
+    assert_eq!(rt; shaken.output.as_str(), told);
+    assert!(rt; shaken.errors.is_empty() && shaken.status == 0);
+    Ok(())
+}
+
 /// Each command wants its own kind of work.
 #[test]
 fn kinds_of_work(rt: HostRuntime) -> Result<(), Fail> {

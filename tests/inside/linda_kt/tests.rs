@@ -1,15 +1,18 @@
 //! The program from its words to its output, its line on the errors and its status.
-use crate::files::Files;
+use crate::copies::ShowError;
+use crate::files::{Files, OldFile, StoreInFile};
+use crate::holding::Holding;
 use crate::program::run_program;
-use kt_command::end_replay;
+use kt_command::{Terminals, end_replay};
 use kt_scene::{OpenError, ReplayFault, Sink, Source, StepError};
 use kt_store::StoreError;
-use std::io;
+use sqlite::{File, FileStore};
 use std::io::{ErrorKind, Read, Write};
 use std::process::Abort;
 use std::sync::Wait;
 use std::test::Fail;
 use std::thread::Threads;
+use std::{fs, io};
 
 pub const PUT_AND_TAKE: &str =
     "linda-kt 1\nshards 1\nworker\nout (\"a\", 1)\nin (\"a\", ?int x)\nsteps\n\
@@ -54,6 +57,12 @@ const SATURATING_SET_REPORT: &str = "survivors 3\nw1.1 out (9223372036854775807)
 w1.2 in (?int) got (9223372036854775807)\nw1.3 out (9223372036854775807) done\nlost 0\nspace 1\n\
 (9223372036854775807)\npermanent 0\n";
 
+/// No stream is a terminal.
+pub const NOBODY: Terminals = Terminals {
+    is_typed: false,
+    is_watched: false,
+};
+
 /// What a run left.
 #[derive(Debug, Drop, PartialEq)]
 pub struct Ended {
@@ -75,8 +84,8 @@ fn run_with<T: Threads + Wait + Sync, R: Read, W: Write, E: Write>(
     writer: &mut Sink<W>,
     errors: &mut E,
 ) -> u8 {
-    let opener = Files::new(rt);
-    run_program(
+    let opener = Holding::<Files<'_>, StoreInFile>::new(Files::new(rt));
+    run_program::<FileStore<File>, OldFile, ShowError, fs::File, io::Error, _, T, R, W, E>(
         opener,
         threads,
         rt.alloc(),
@@ -84,7 +93,7 @@ fn run_with<T: Threads + Wait + Sync, R: Read, W: Write, E: Write>(
         reader,
         writer,
         errors,
-        false,
+        NOBODY,
     )
 }
 
@@ -279,13 +288,16 @@ fn words(rt: HostRuntime) -> Result<(), Fail> {
             .starts_with("error: 'linda_kt' requires a subcommand")
     );
     assert!(rt; none.output.is_empty() && none.status == 2);
-    for word in ["walk", "--store", "help", ""] {
+    for word in ["walk", "--store", ""] {
         let ended = run(&rt, &rt, &[word], NO_STEPS)?;
         assert!(rt; ended.errors.as_str().starts_with("error: un"), "{word}");
         assert!(rt; ended.output.is_empty() && ended.status == 2, "{word}");
     }
-    let more = run(&rt, &rt, &["replay", "more"], NO_STEPS)?;
+    let more = run(&rt, &rt, &["replay", "one", "more"], NO_STEPS)?;
     assert!(rt; more.output.is_empty() && more.status == 2);
+    let named = run(&rt, &rt, &["help", "replay"], NO_STEPS)?;
+    let behind = run(&rt, &rt, &["replay", "--help"], NO_STEPS)?;
+    assert!(rt; named.output.as_str() == behind.output.as_str() && named.status == 0);
     Ok(())
 }
 

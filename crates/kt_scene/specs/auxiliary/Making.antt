@@ -7,7 +7,6 @@ use Rattle.kt_scenario.specs.Scene.{SceneModel}
 use Rattle.kt_core.specs.Store.{StoreValue}
 use Rattle.kt_core.specs.Stepping.{step_counted}
 use Rattle.kt_core.specs.Starting.{Begins, IsErrorOf, IsUnbegun}
-use Rattle.kt_core.specs.World.{WorldModel}
 use Rattle.kt_core.specs.declared.start.Start.{Start}
 use Rattle.kt_core.specs.declared.start.StartError.{StartError}
 use Rattle.kt_core.specs.declared.start.StartError.TheVariants as unbegun
@@ -15,22 +14,6 @@ use Rattle.kt_model.specs.State.{State}
 use Rattle.kt_scene.specs.Runs.{IsRefusedAt}
 use Rattle.kt_scene.specs.declared.fault.ReplayFault.{ReplayFault}
 use Rattle.kt_scene.specs.declared.fault.ReplayFault.TheVariants as faults
-
--- the step that was refused, as long as the store is honest, and what the store counts of it
-pub record IsStepRefused (old new : WorldModel) (steps : List Step) (at : ℕ) (cause : StepError) : Type 0 where
-  pub refused : IsTrue new.is_honest → IsRefusedAt old.state steps at cause new.state.content
-  pub counts : new.counts ≡ step_counted {T = Unit {0}} (Err cause) old.counts
-
--- what making steps alone answers: the first step refused
-abbrev pub IsStepFault : (old new : WorldModel) → List Step → ReplayFault → Type 0
-IsStepFault old new steps (faults.Scene line cause) = ⊥
-IsStepFault old new steps (faults.Step at cause) = IsStepRefused old new steps at cause
-IsStepFault old new steps (faults.Open cause) = ⊥
-IsStepFault old new steps (faults.Resume cause) = ⊥
-IsStepFault old new steps (faults.Report cause) = ⊥
-IsStepFault old new steps faults.Memory = ⊥
-IsStepFault old new steps faults.Read = ⊥
-IsStepFault old new steps faults.Write = ⊥
 
 -- the first step of a scenario that was refused, and the store that was left
 pub record IsRunRefused (start : Start) (was left : StoreValue) (scene : SceneModel) (steps : List Step) (at : ℕ)

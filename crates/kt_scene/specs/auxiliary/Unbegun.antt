@@ -1,5 +1,5 @@
 -- The fault of a world that did not begin.
--- Cited by fault.rt.
+-- Cited by fault.rt; other crates.
 use Rattle.kt_core.specs.declared.start.StartError.{StartError}
 use Rattle.kt_core.specs.declared.start.StartError.TheVariants as unbegun
 use Rattle.kt_scene.specs.declared.fault.ReplayFault.{ReplayFault}

@@ -1,5 +1,5 @@
 -- What reading a store leaves.
--- Cited by Later, board.rt, node.rt, showing.rt.
+-- Cited by Later, board.rt, node.rt, showing.rt, showing_json.rt.
 use Rattle.std.specs.Prelude.{◌≡◌, false, Result, IfOk, IfErr, IsErrOf, IsTrue}
 use Rattle.kt_store.specs.declared.error.StoreError.{StoreError}
 use Rattle.kt_store.specs.declared.error.StoreError.TheVariants.{Damaged}

@@ -1,6 +1,6 @@
 -- An instance as the reads of a store tell it, by its number.
--- Cited by Boards, board.rt, `board::push_instances`, `board::push_open`, `board::push_told`, `board::tell_below`,
---   `showing::gather_stored`.
+-- Cited by Boards, Helds, board.rt, `board::push_instances`, `board::push_open`, `board::push_told`,
+--   `board::tell_below`, `showing::gather_stored`, `showing_json::read_held`.
 use Rattle.std.specs.Prelude.{ℕ, List, [], ◌∷◌, ◌++◌, length, codes, Option, None, Some}
 use Rattle.std.specs.List.{flat_map}
 use Rattle.std.specs.Option.{option_map}

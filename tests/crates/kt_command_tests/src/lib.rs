@@ -2,4 +2,8 @@
 #![tactic(auto)]
 
 #[cfg(test)]
+mod openers;
+#[cfg(test)]
 mod openings;
+#[cfg(test)]
+mod requests;

@@ -62,7 +62,7 @@ pub(crate) static IN_SCRIPT: &[Row] = &[
         "faults\n",
         r#"  faults
   ^
-  `faults` is for `linda_kt run`: type `linda_kt run < FILE`; for `replay` write `steps` here, and steps below
+  `faults` is for `linda_kt run`: type `linda_kt run FILE`; for `replay` write `steps` here, and steps below
 "#,
     ),
     (
@@ -205,7 +205,7 @@ pub(crate) static IN_SCRIPT_OF_RUN: &[Row] = &[
         "steps\n",
         r#"  steps
   ^
-  `steps` is for `linda_kt replay`: type `linda_kt replay < FILE`; for `run` write `faults` here, and no steps
+  `steps` is for `linda_kt replay`: type `linda_kt replay FILE`; for `run` write `faults` here, and no steps
 "#,
     ),
     (
@@ -254,7 +254,7 @@ pub(crate) static IN_JOURNAL: &[Row] = &[(
     "steps\n",
     r#"  steps
   ^
-  this is a journal, the steps that a run made: type `linda_kt replay < FILE`
+  this is a journal, the steps that a run made: type `linda_kt replay FILE`
 "#,
 )];
 
@@ -264,7 +264,7 @@ pub(crate) static IN_RESUMED: &[Row] = &[(
     "steps\n",
     r#"  steps
   ^
-  a journal of a run that went on: type `linda_kt resume --store COPY < FILE`, COPY its store from before the run
+  a journal of a run that went on: type `linda_kt resume --store COPY FILE`, COPY its store from before the run
 "#,
 )];
 

@@ -15,17 +15,25 @@ mod settling;
 mod stages;
 mod stepping;
 mod stores;
+mod telling;
 mod texts;
+mod trials;
+mod words;
 
 use crate::fresh::Fresh;
 use crate::resuming::resumed_in_turn;
-use crate::runs::{gone_on_in_turn, replayed_in_turn, run_in_turn, threads_in_turn};
+use crate::runs::{
+    completed_in_turn, gone_on_in_turn, replayed_in_turn, run_in_turn, threads_in_turn,
+};
 use crate::scripts::scripts_in_turn;
 use crate::settling::settled_in_turn;
 use crate::stages::{Way, leads_to};
 use crate::stepping::{Moment, opened_in_turn, scenario};
 use crate::stores::{sql_in_turn, stores_in_turn};
+use crate::telling::{ends_in_turn, run_ends_in_turn, stores_told_in_turn};
 use crate::texts::{checkpoints_in_turn, read_in_turn, reports_in_turn, written_in_turn};
+use crate::trials::{chaos_in_turn, drawn_in_turn, times_in_turn};
+use crate::words::words_in_turn;
 use kt_core::Step;
 use kt_scene::{Scenario, Source, WorkKind, read_text};
 use kt_sql::SqlStore;
@@ -75,9 +83,12 @@ fn try_steps<W: Wait, S: CkptStore + Fresh + Drop>(
     checkpoints_in_turn::<S>(rt, alloc, text, steps)?;
     reports_in_turn::<S>(rt, alloc, text, steps)?;
     stores_in_turn::<S>(rt, alloc, text, steps)?;
+    stores_told_in_turn::<S>(rt, alloc, text, steps)?;
+    ends_in_turn::<S>(rt, alloc, text, steps)?;
     settled_in_turn::<S>(rt, alloc, text, steps)?;
     gone_on_in_turn::<S>(rt, alloc, text, steps)?;
-    replayed_in_turn::<S>(rt, alloc, text)
+    replayed_in_turn::<S>(rt, alloc, text)?;
+    completed_in_turn::<S>(rt, alloc, text)
 }
 
 /// All that is tried of a scenario of steps, over stores of this kind.
@@ -103,8 +114,22 @@ fn try_run<T: Threads + Wait + Sync, S: CkptStore + Fresh + Send + Drop>(
 ) -> Result<(), Fail> {
     read_in_turn(rt, alloc, text, WorkKind::Faults)?;
     written_in_turn(rt, alloc, text, WorkKind::Faults)?;
+    drawn_in_turn(rt, alloc, text)?;
+    run_ends_in_turn::<T, S>(rt, threads, alloc, text)?;
     threads_in_turn::<T, S>(rt, threads, alloc, text)?;
-    run_in_turn::<T, S>(rt, threads, alloc, text)
+    run_in_turn::<T, S>(rt, threads, alloc, text)?;
+    chaos_in_turn::<T, S>(rt, threads, alloc, text)
+}
+
+/// The same over stores in memory, and several runs over such.
+fn try_runs<T: Threads + Wait + Sync>(
+    rt: &HostRuntime,
+    threads: &T,
+    alloc: Global,
+    text: &[u8],
+) -> Result<(), Fail> {
+    try_run::<T, MemStore>(rt, threads, alloc, text)?;
+    times_in_turn(rt, threads, alloc, text)
 }
 
 /// What is tried is said by the first argument; the scenario is the standard input. Without an argument nothing is
@@ -121,9 +146,10 @@ fn main(rt: HostRuntime) -> Result<(), Fail> {
     match word.as_bytes() {
         b"steps" => try_scenario::<_, MemStore>(&rt, &rt, alloc, &text),
         b"steps-in-sql" => try_scenario::<_, SqlStore<Disk>>(&rt, &rt, alloc, &text),
-        b"run" => try_run::<_, MemStore>(&rt, &rt, alloc, &text),
+        b"run" => try_runs(&rt, &rt, alloc, &text),
         b"run-in-sql" => try_run::<_, SqlStore<Disk>>(&rt, &rt, alloc, &text),
         b"sql" => sql_in_turn(&rt, alloc),
+        b"words" => words_in_turn(&rt, alloc),
         _ => Err(Fail::new("this is not tried")),
     }
 }

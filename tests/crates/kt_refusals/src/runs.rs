@@ -1,14 +1,16 @@
-//! Replays and runs from text to text, with each growth refused in turn.
+//! Replays, completions and runs from text to text, with each growth refused in turn.
 
+use crate::counts::Counts;
 use crate::fresh::{Fresh, sink};
 use crate::refusing::{MOST, Turns, never, refuse, was_spared};
 use crate::resuming::is_of_resuming;
 use crate::stepping::{is_of_opening, played, scenario};
-use kt_core::{Step, StepError};
+use kt_complete::complete_returning_store;
+use kt_core::{Start, Step, StepError};
 use kt_run::{Output, RunTextFault, run_text};
 use kt_scene::{
-    ReplayFault, Scenario, SceneError, Source, Work, WorkKind, read_scene, replay, resume_replay,
-    write_scene,
+    Nobody, ReplayFault, Scenario, SceneError, Sink, Source, Work, WorkKind, read_scene, replay,
+    resume_replay, write_scene,
 };
 use kt_stage::{OpenGate, RunFault, run_threads};
 use kt_store::{CkptStore, StoreError};
@@ -18,7 +20,7 @@ use std::test::Fail;
 use std::thread::Threads;
 
 /// As many runs by threads in a row have to be spared: another run can have another count of growths.
-const SPARED: u8 = 3;
+pub(crate) const SPARED: u8 = 3;
 
 fn is_of_step(cause: StepError) -> bool {
     matches!(
@@ -28,7 +30,7 @@ fn is_of_step(cause: StepError) -> bool {
 }
 
 /// Whether memory ran out in the replay: for its text, a step, its store or its report.
-fn is_of_replay(fault: ReplayFault) -> bool {
+pub(crate) fn is_of_replay(fault: ReplayFault) -> bool {
     match fault {
         ReplayFault::Scene { cause, .. } => cause == SceneError::OutOfMemory,
         ReplayFault::Step { cause, .. } => is_of_step(cause),
@@ -41,7 +43,7 @@ fn is_of_replay(fault: ReplayFault) -> bool {
 }
 
 /// Whether memory ran out in the run, or for one of its threads.
-fn is_of_run(fault: RunFault) -> bool {
+pub(crate) fn is_of_run(fault: RunFault) -> bool {
     match fault {
         RunFault::Open(cause) => is_of_opening(cause),
         RunFault::Resume(cause) => is_of_resuming(cause),
@@ -52,7 +54,7 @@ fn is_of_run(fault: RunFault) -> bool {
 }
 
 /// What a replay or a run came to, whether no growth of it was refused, and what was written.
-type Ended<F> = (Result<(), F>, bool, Vec<u8>);
+pub(crate) type Ended<F> = (Result<(), F>, bool, Vec<u8>);
 
 /// A replay of a text: over a fresh store, or over what these steps of a scenario left, from which it goes on.
 #[derive(Clone, Copy, Debug)]
@@ -126,6 +128,15 @@ impl Replay<'_> {
     }
 }
 
+/// Whether the text replays over a fresh store.
+pub(crate) fn replays<S: CkptStore + Fresh + Drop>(
+    alloc: Global,
+    text: &[u8],
+) -> Result<bool, Fail> {
+    let (replayed, _, _) = Replay::Opens { text }.once::<S>(alloc, 0)?;
+    Ok(replayed == Ok(()))
+}
+
 /// Replays the text over fresh stores.
 pub(crate) fn replayed_in_turn<S: CkptStore + Fresh + Drop>(
     rt: &HostRuntime,
@@ -150,6 +161,109 @@ pub(crate) fn gone_on_in_turn<S: CkptStore + Fresh + Drop>(
         steps,
     };
     replay.in_turn::<S>(rt, alloc)
+}
+
+/// What a completion came to, whether no growth of it was refused, what was written, whether the store has counted just
+/// its own refusal, and whether it can be gone on from.
+#[derive(Drop)]
+struct Completed {
+    answer: Result<(), ReplayFault>,
+    is_spared: bool,
+    written: Vec<u8>,
+    is_counted: bool,
+    goes_on: bool,
+}
+
+/// Whether a store counts this behind a fault.
+fn is_counted(answer: Result<(), ReplayFault>, before: Counts, after: Counts) -> bool {
+    match answer {
+        Err(ReplayFault::Open(cause)) => after == before.after_opening(cause),
+        Err(ReplayFault::Step { cause, .. }) => after == before.after_step(Err(cause)),
+        Err(ReplayFault::Report(cause)) => before.can_become(after, cause),
+        _ => after == before,
+    }
+}
+
+/// Whether a program goes on from the store by this text, which has no steps, to an end.
+fn is_gone_on_from<S: CkptStore + Drop>(
+    alloc: Global,
+    store: S,
+    rest: &[u8],
+) -> Result<bool, Fail> {
+    let mut sink = sink(alloc)?;
+    let mut source = Source::new(rest);
+    let (answer, _) = complete_returning_store(
+        alloc,
+        Start::Resume,
+        &mut source,
+        &mut sink,
+        store,
+        &mut Nobody,
+    );
+    Ok(answer == Ok(()))
+}
+
+/// Completes the text over a fresh store, with the growth of this number refused.
+fn completed_once<S: CkptStore + Fresh + Drop>(
+    alloc: Global,
+    text: &[u8],
+    rest: &[u8],
+    number: usize,
+) -> Result<Completed, Fail> {
+    let mut sink: Sink<Vec<u8>> = sink(alloc)?;
+    let store = S::fresh(alloc)?;
+    let before = Counts::of(&store);
+    let mut source = Source::new(text);
+    refuse(alloc, number)?;
+    let (answer, store) = complete_returning_store(
+        alloc,
+        Start::Open,
+        &mut source,
+        &mut sink,
+        store,
+        &mut Nobody,
+    );
+    let is_spared = was_spared(alloc, number)?;
+    let is_counted = is_counted(answer, before, Counts::of(&store));
+    let goes_on = is_gone_on_from(alloc, store, rest)?;
+    Ok(Completed {
+        answer,
+        is_spared,
+        written: sink.into_inner(),
+        is_counted,
+        goes_on,
+    })
+}
+
+/// Completes the text, each time with another reader, writer and store. Refused, it leaves nothing written, and a store
+/// from which a program goes on.
+pub(crate) fn completed_in_turn<S: CkptStore + Fresh + Drop>(
+    rt: &HostRuntime,
+    alloc: Global,
+    text: &[u8],
+) -> Result<(), Fail> {
+    let Scenario { scene, .. } = scenario(alloc, text)?;
+    let rest = write_scene(alloc, &scene, &Work::Steps(Vec::new(alloc)))?;
+    let expected = completed_once::<S>(alloc, text, &rest, 0)?.written;
+    let mut turns = Turns::new("complete_returning_store");
+    turns.hold(rt, !expected.is_empty(), "nothing written")?;
+    for number in 1..MOST {
+        let completed = completed_once::<S>(alloc, text, &rest, number)?;
+        let is_right = match completed.answer {
+            Ok(()) => completed.written == expected,
+            Err(fault) => is_of_replay(fault) && completed.written.is_empty(),
+        };
+        turns.hold(rt, is_right, "another end")?;
+        turns.hold(rt, completed.is_counted, "what the store counts")?;
+        turns.hold(rt, completed.goes_on, "a store that is not gone on from")?;
+        if completed.is_spared {
+            return turns.end(rt, number);
+        }
+        if completed.answer.is_ok() {
+            turns.bear();
+        }
+    }
+    Err(never())
 }
 
 /// Runs the text by threads over a fresh store, with the growth of this number refused.
@@ -177,7 +291,7 @@ fn run_once<T: Threads + Wait + Sync, S: CkptStore + Fresh + Send + Drop>(
 }
 
 /// As many turns in a row in which no growth was refused, with this one.
-fn spared_now(spared: u8, is_spared: bool) -> u8 {
+pub(crate) fn spared_now(spared: u8, is_spared: bool) -> u8 {
     if is_spared {
         spared.saturating_add(1)
     } else {
@@ -198,10 +312,7 @@ pub(crate) fn run_in_turn<T: Threads + Wait + Sync, S: CkptStore + Fresh + Send 
     for number in 1..MOST {
         let (answer, is_spared, written) = run_once::<T, S>(threads, alloc, text, number)?;
         let is_right = match answer {
-            Ok(()) => {
-                let (replayed, _, _) = Replay::Opens { text: &written }.once::<S>(alloc, 0)?;
-                replayed == Ok(())
-            }
+            Ok(()) => replays::<S>(alloc, &written)?,
             Err(RunTextFault::Text(fault)) => is_of_replay(fault) && written.is_empty(),
             Err(RunTextFault::Run(fault)) => is_of_run(fault) && written.is_empty(),
         };

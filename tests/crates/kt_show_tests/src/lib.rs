@@ -10,9 +10,9 @@ use kt_history::What;
 use kt_link::Label;
 use kt_script::{MAX_COMMANDS, MAX_VARIABLES};
 use kt_shard::{CachedReply, Request};
-use kt_show::show;
+use kt_show::{show, show_json};
 use kt_store::{CkptStore, MemStore, StoreError, Verdict};
-use kt_tuple::{Answer, NodeId, Op, Template, Tuple, Value};
+use kt_tuple::{Answer, NodeId, Op, Str, Template, Tuple, Value};
 use std::alloc::Global;
 use std::test::Fail;
 
@@ -33,6 +33,8 @@ const SHOWN: &str = "node w1: incarnation 1
     last answer none
     value 1
     value true
+    value \" \\\"\\\\~\"
+    value -9223372036854775808
 node s1: incarnation 2
   permanent checkpoint: initial
   tentative checkpoint of instance 2
@@ -47,6 +49,25 @@ board: instances 3
   instance 3 begun by s1: no
 open: instance 2 begun by w1
 ";
+
+/// The same as JSON, in pieces.
+const SHOWN_AS_JSON: [&str; 13] = [
+    r#"{"nodes":[{"name":"w1","incarnation":1,"permanent":{"acts":1,"worker":"#,
+    r#"{"next_command":2,"last_request":1,"unanswered":{"word":"out","tuple":["a",1]},"#,
+    r#""last_answer_was_none":false,"values":[]}},"#,
+    r#""tentative":{"instance":2,"checkpoint":{"acts":3,"worker":"#,
+    r#"{"next_command":5,"last_request":3,"unanswered":null,"#,
+    r#""last_answer_was_none":true,"values":[1,true," \"\\~",-9223372036854775808]}}}},"#,
+    r#"{"name":"s1","incarnation":2,"permanent":null,"#,
+    r#""tentative":{"instance":2,"checkpoint":{"acts":2,"shard":{"tuples":[["a",1],["b"]],"#,
+    r#""waiting":[{"worker":"w1","request":2,"operation":{"word":"in","template":["a",{"formal":"int"}]}}],"#,
+    r#""served":[{"worker":"w1","request":1,"operation":{"word":"out","tuple":["a",1]},"#,
+    r#""answer":{"word":"done"}}]}}}}],"#,
+    r#""instances":[{"number":1,"begun_by":"w1","verdict":"yes"},{"number":2,"begun_by":"w1","verdict":"open"},"#,
+    r#"{"number":3,"begun_by":"s1","verdict":"no"}],"open":[2]}"#,
+];
+
+const NOTHING_AS_JSON: &str = r#"{"nodes":[],"instances":[],"open":[]}"#;
 
 fn out(alloc: Global) -> Result<Op, Fail> {
     Ok(Op::Out(Tuple::parse(alloc, b"(\"a\", 1)")?))
@@ -126,6 +147,8 @@ fn a_store_in_which_nothing_was_stored(rt: HostRuntime) -> Result<(), Fail> {
     let mut store = MemStore::new(rt.alloc());
     let text = show(rt.alloc(), &mut store)?;
     assert_eq!(rt; text.as_slice(), b"nothing is stored\n".as_slice());
+    let text = show_json(rt.alloc(), &mut store)?;
+    assert_eq!(rt; text.as_slice(), NOTHING_AS_JSON.as_bytes());
     Ok(())
 }
 
@@ -170,25 +193,46 @@ fn promote(store: &mut MemStore, alloc: Global, node: NodeId) -> Result<(), Fail
     }
 }
 
-#[test]
-fn a_worker_a_shard_and_three_instances(rt: HostRuntime) -> Result<(), Fail> {
-    let alloc = rt.alloc();
+/// A store with a worker, a shard and three instances.
+fn held(alloc: Global) -> Result<MemStore, Fail> {
     let mut store = MemStore::new(alloc);
     let state = WorkerState::new(1, 1, false, Some(out(alloc)?), Vec::new(alloc));
     let first = checkpoint_of_worker(alloc, 1, state)?;
     begin(&mut store, alloc, WORKER, &first)?;
     decide(&mut store, 1, true)?;
     promote(&mut store, alloc, WORKER)?;
-    let values = vec![in alloc; Value::Int(1), Value::Bool(true)]?;
+    let values = vec![in alloc;
+        Value::Int(1),
+        Value::Bool(true),
+        Value::Str(Str::new(b" \"\\~").ok_or("a str")?),
+        Value::Int(i64::MIN),
+    ]?;
     let state = WorkerState::new(4, 3, true, None, values);
     let second = checkpoint_of_worker(alloc, 3, state)?;
     begin(&mut store, alloc, WORKER, &second)?;
     store.begin_restart(S1)?;
     decide(&mut store, 3, false)?;
     join(&mut store, alloc, S1, 2, &checkpoint_of_shard(alloc)?)?;
+    Ok(store)
+}
+
+#[test]
+fn a_worker_a_shard_and_three_instances(rt: HostRuntime) -> Result<(), Fail> {
+    let alloc = rt.alloc();
+    let mut store = held(alloc)?;
     let text = show(alloc, &mut store)?;
     assert!(rt;
         text.as_slice() == SHOWN.as_bytes(),
+        "{}",
+        String::from_utf8(text).ok().ok_or("a text")?
+    );
+    let mut shown = String::new(alloc);
+    for piece in &SHOWN_AS_JSON {
+        shown.push_str(piece)?;
+    }
+    let text = show_json(alloc, &mut store)?;
+    assert!(rt;
+        text.as_slice() == shown.as_bytes(),
         "{}",
         String::from_utf8(text).ok().ok_or("a text")?
     );

@@ -12,6 +12,11 @@ returns-in-Replay-clause-told g c =
 pub returns-in-Run-clause-told : goal.returns-in-Run-clause-told
 returns-in-Run-clause-told g c =
     let over = c.run_text_returning_store-answer in
-    let value = store_value g.S.CkptStore in
-    rw c.in-Run.is (run_told c.in-Run.start (value c.args.store) (value over.result.1) _ _ _ _ _ over.result.0 c.end_run.result
-    c.end_run.ensures.status over.ensures.written over.ensures.front over.ensures.fault over.ensures.nothing)
+    rw c.in-Run.is (run_told _ _ _ _ _ over.result.0 c.end_run.result c.end_run.ensures.status over.ensures.written over.ensures.front
+    over.ensures.fault over.ensures.nothing)
+
+pub returns-in-RunChaos-clause-told : goal.returns-in-RunChaos-clause-told
+returns-in-RunChaos-clause-told g c =
+    let over = c.run_chaos_returning_store-answer in
+    rw c.in-RunChaos.is (run_told _ _ _ _ _ over.result.0 c.end_run-in-RunChaos.result c.end_run-in-RunChaos.ensures.status over.ensures.written
+    over.ensures.front over.ensures.fault over.ensures.nothing)

@@ -29,8 +29,12 @@ returns g c =
           let within = c.loop-node.auto.node-index-end in
           let items = c.deref-node-items.ensures.value in (
             proper,
-            all_read c.args.out.now.items c.loop-node.out.items (kind.content c.args.store.now) (kind.content c.nodes.new.self)
-                c.deref-node-items.result.now c.loop-node.node-index (first.same start) (items ∙ read.value start) (omega (arith, past, within)) proper (inv.1 h),
+            all_read node_lines c.args.out.now.items c.loop-node.out.items (kind.content c.args.store.now) (kind.content c.nodes.new.self)
+                c.deref-node-items.result.now c.loop-node.node-index (first.same start) (items ∙ read.value start) (omega (
+                  arith,
+                  past,
+                  within,
+                )) proper (inv.1 h),
           );
       same = all.same;
       honest = all.honest;

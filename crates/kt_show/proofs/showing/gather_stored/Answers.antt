@@ -11,8 +11,8 @@ use Rattle.kt_show.proofs.showing.gather_stored.Goals as goal
 pub returns : goal.returns
 returns g c =
     both_gathered g.S.CkptStore c.args.store.now c.push_nodes.new.store c.push_board.new.store
-    (λ d. IsProper d × (c.push_nodes.new.out.items ≡ c.new-out.result.items ++ flat_map node_lines d.nodes))
-    (λ d. c.push_board.new.out.items ≡ c.push_nodes.new.out.items
+    (λ d t. IsProper d × (c.push_nodes.new.out.items ≡ c.new-out.result.items ++ flat_map node_lines d.nodes))
+    (λ d t. c.push_board.new.out.items ≡ c.push_nodes.new.out.items
     ++ told_lines (flat_map (told_list d) (range_with_len 0 (next_instance d))))
     (λ d text. text.items ≡ stored_lines d) _ _ c.push_board.new.out
     (λ d p q. q ∙ ap (λ (l : List ℕ). c.push_nodes.new.out.items ++ l) (board_told d p.0.board)

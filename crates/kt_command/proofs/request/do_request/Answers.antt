@@ -1,6 +1,0 @@
-use Rattle.kt_command.proofs.request.do_request.Goals as goal
-
-pub returns-after-opened-clause-told : goal.returns-after-opened-clause-told
-returns-after-opened-clause-told g c =
-    rw c.in-Make.is (rw c.in-Some.is
-    (record { answer = c.open-opened.result; given = c.open-opened.ensures; ends = c.run_opened.ensures.told }))

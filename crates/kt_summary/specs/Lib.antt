@@ -1,0 +1,4 @@
+pub mod Waits
+pub mod Strikes
+pub mod Remade
+pub mod auxiliary

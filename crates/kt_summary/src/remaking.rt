@@ -1,0 +1,80 @@
+//! Steps made once more, from the opening of their scene: so it is known which step wrote each note, and which verdict
+//! each check and each rollback got.
+//! Cited by ending.rt.
+
+ghost use Rattle.std.specs.Prelude.{◌≡◌, ◌≢◌, [], IfOk, IfSome, IsNone, IsTrue, Ok};
+ghost use Rattle.kt_model.specs.Reached.{opening};
+ghost use Rattle.kt_model.specs.State.{State};
+ghost use Rattle.kt_stage.specs.Journal.{all_made};
+ghost use Rattle.kt_summary.specs.Remade.{AreMakers, IsRemade};
+ghost use Rattle.kt_summary.specs.auxiliary.Wants.{is_want};
+
+use kt_core::{Scene, Step, StepError, World};
+use kt_store::MemStore;
+use std::alloc::{AllocError, Global};
+
+/// What the steps of a scene lead to.
+#[derive(Debug, Drop)]
+pub struct Remade {
+    /// What is stored then: its board has the verdict of each check and each rollback, in the order in which they were
+    /// begun.
+    pub store: MemStore,
+    /// For each note of the history the number of the step that made it, counted from 1.
+    pub makers: Vec<u64>,
+}
+
+/// Makes the steps once more, from the opening of the scene's world over a store in memory. `None` where they do not
+/// lead on from there: they were made in a world that was resumed. `AllocError` where memory is wanting.
+pub fn remake(alloc: Global, scene: Scene, steps: &[Step]) -> Result<Option<Remade>, AllocError>
+    ensures made { IfOk result (λ x. IfSome x (λ r.
+        IsRemade (opening scene) steps.now r.store.content r.makers.items)) }
+    ensures none { IfOk result (λ x. IsNone x
+        → (s : State) → all_made (opening scene) steps.now ≢ Ok s) }
+{
+    let mut world = match World::open(alloc, scene, MemStore::new(alloc)) {
+        Ok(world) => world,
+        Err(_) => return Err(AllocError),
+    };
+    let Some(makers) = make_all(alloc, &mut world, steps)? else {
+        return Ok(None);
+    };
+    let store = world.into_store();
+    Ok(Some(Remade { store, makers }))
+}
+
+/// Whether a step was refused for want of memory. A store in memory refuses for nothing else.
+fn is_want(cause: StepError) -> bool
+    ensures { result ≡ is_want cause }
+{
+    matches!(cause, StepError::Store(_) | StepError::OutOfMemory)
+}
+
+/// Makes the steps, and gives for each new note the number of the step that made it; `None` where one is refused.
+fn make_all(
+    alloc: Global,
+    world: &mut World<MemStore>,
+    steps: &[Step],
+) -> Result<Option<Vec<u64>>, AllocError>
+    requires honest { IsTrue world.old.is_honest }
+    requires nothing { world.old.state.history ≡ [] }
+    ensures honest { IsTrue world.new.is_honest }
+    ensures made { IfOk result (λ x. IfSome x (λ makers.
+        AreMakers world.old.state steps.now world.new.state makers.items)) }
+    ensures none { IfOk result (λ x. IsNone x
+        → (s : State) → all_made world.old.state steps.now ≢ Ok s) }
+{
+    let mut makers = Vec::new(alloc);
+    for (place, step) in steps.iter().enumerate() {
+        if let Err(cause) = world.step(alloc, *step) {
+            return if is_want(cause) {
+                Err(AllocError)
+            } else {
+                Ok(None)
+            };
+        }
+        if makers.len() < world.history().notes().len() {
+            makers.push(place as u64 + 1)?;
+        }
+    }
+    Ok(Some(makers))
+}

@@ -1,0 +1,4 @@
+pub mod Firsts
+pub mod InMemory
+pub mod Told
+pub mod Behind

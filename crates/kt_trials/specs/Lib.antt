@@ -1,0 +1,5 @@
+pub mod Memory
+pub mod Tally
+pub mod Runs
+pub mod Chaos
+pub mod auxiliary
