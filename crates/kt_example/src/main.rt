@@ -3,8 +3,8 @@
 //!
 //! What is proved beside: the store stays honest, whatever the steps do, as nothing can fail one in memory. So the
 //! headline holds of this world after each step: `space` makes up the tuples of the surviving services, and its clause
-//! says that these services are one run of a tuple space that leads there. The laws of kt_model hold too, here that each
-//! worker stands in its script where the answers in its log say.
+//! says that these services are one run of a tuple space that leads there. The laws of kt_model hold too, here that
+//! each worker stands in its script where the answers in its log say.
 #![tactic(auto)]
 
 ghost use Rattle.std.specs.Prelude.{IfOk, IsTrue};
