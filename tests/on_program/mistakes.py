@@ -41,7 +41,9 @@ def put(number, line):
 # What is said of them.
 NOTHING = "the input is empty: give a file that holds a scenario, whose first line is `linda-kt 1`"
 TOO_LONG = "the text has more than 1048576 bytes: make it shorter"
-DATABASE = "this is a database, no scenario: to go on from it, type `linda_kt resume --store DATABASE SCENARIO`"
+DATABASE = (
+    "a database: give the scenario instead, or to go on from it type `linda_kt resume --store DATABASE SCENARIO`"
+)
 UNREAD = "the scenario could not be read: is it a folder, or was standard input closed?"
 NO_STORE = "it is there and is no store of this program: name a file that is not there yet"
 

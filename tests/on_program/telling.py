@@ -80,6 +80,7 @@ def shown():
         yield tell("show: a full output", (None, b"write\n", 7), (None, *start(["show", store], b"", FULL)[1:]))
         report = start(["run", "--resume", "--store", store, f"{SCENES}/checks_and_failures.scn"], CLOSED, b"")
         yield told("show: the store goes on", 0, report[2])
+        yield from a_shard(f"{folder}/checked.db")
         yield from not_shown(folder)
         yield from temporary(folder, store)
 
@@ -93,14 +94,24 @@ def compared(store, content, words, ended):
     yield tell("show: a store as JSON", ((nodes, instances), b"", 0), (counted, *ended))
     shards = [(node["permanent"] or {}).get("shard") for node in content["nodes"]]
     tuples = [values for shard in shards if shard for values in shard["tuples"]]
-    are_lists = bool(tuples) and all(isinstance(values, list) for values in tuples)
-    yield told("show: tuples are lists of values", True, are_lists)
+    # The threads choose what a shard held when it was saved: it may be nothing.
+    yield told("show: tuples are lists of values", True, all(isinstance(values, list) for values in tuples))
     lines, heads = words.decode().splitlines(), ("node ", "    tuple ", "  instance ", "open: ")
     in_words = [sum(line.startswith(head) for line in lines) for head in heads]
     tentative = [(node["tentative"] or {}).get("checkpoint", {}).get("shard") for node in content["nodes"]]
     also = sum(len(shard["tuples"]) for shard in tentative if shard)
     wanted = [nodes, len(tuples) + also, instances, len(content["open"])]
     yield told("show: the words have as many nodes, tuples, instances and open ones", wanted, in_words)
+
+
+def a_shard(store):
+    """What a shard held when it was saved, of a scenario whose steps are fixed."""
+    start(["replay", "--store", store], scenario("checkpoint_of_two"), b"")
+    shown_as = {words: start(["show", *words, store], CLOSED, b"")[0].decode() for words in ((), ("--json",))}
+    held_by = [node["permanent"] for node in json.loads(shown_as["--json",])["nodes"]]
+    in_json = [checkpoint["shard"]["tuples"] for checkpoint in held_by if "shard" in checkpoint]
+    in_words = [line for line in shown_as[()].splitlines() if line.startswith("    tuple ")]
+    yield told("show: the tuple of a shard", ([[["a", 1]]], ['    tuple ("a", 1)']), (in_json, in_words))
 
 
 @contextlib.contextmanager

@@ -173,6 +173,8 @@ HELP = report(
     "  check       Reads the scenario and does nothing: says of how many steps or fault lines it is, or which fault it"
     " has",
     "  complete    Writes the scenario with the steps behind its own that bring it to its end",
+    "  trace       Writes what happens in the scenario of steps, or in the journal: a line for each step",
+    "  draw        Draws the scenario of steps, or the journal, as an SVG picture",
     "  show        Writes what a store holds: the checkpoints of each node, and the board",
     "  explain     Says what a number or a name means that is printed where something fails",
     "  completion  Writes a script by which a shell completes the words of this program",
@@ -269,6 +271,31 @@ HELP_OF_COMPLETE = report(
     "Options:",
     "  -h, --help  Print help",
 )
+HELP_OF_TRACE = report(
+    "Writes what happens in the scenario of steps, or in the journal: a line for each step",
+    "",
+    "Usage: linda_kt trace [OPTIONS] [SCENARIO]",
+    "",
+    *ARGUMENTS,
+    "Options:",
+    "      --from <N>     The number of the first step that is told, counted from 1",
+    "      --to <N>       The number of the last step that is told",
+    "      --node <NODE>  Tells the steps of one node alone, as w1 or s2, and those that bring what it sent",
+    "      --json         Writes one JSON object on a line for each step",
+    "  -h, --help         Print help",
+)
+HELP_OF_DRAW = report(
+    "Draws the scenario of steps, or the journal, as an SVG picture",
+    "",
+    "Usage: linda_kt draw [OPTIONS] [SCENARIO]",
+    "",
+    *ARGUMENTS,
+    "Options:",
+    "      --html      Draws a page of HTML, in which a person goes through the scenario step by step",
+    "      --from <N>  The number of the first step that is drawn, counted from 1; those before it are made",
+    "      --to <N>    The number of the last step that is made; what survives is what does so behind it",
+    "  -h, --help      Print help",
+)
 HELP_OF_SHOW = report(
     "Writes what a store holds: the checkpoints of each node, and the board",
     "",
@@ -313,8 +340,8 @@ HELP_OF_MANUAL = report(
 )
 HELPS = {
     "replay": HELP_OF_REPLAY, "run": HELP_OF_RUN, "resume": HELP_OF_RESUME, "migrate": HELP_OF_MIGRATE,
-    "check": HELP_OF_CHECK, "complete": HELP_OF_COMPLETE, "show": HELP_OF_SHOW, "explain": HELP_OF_EXPLAIN,
-    "completion": HELP_OF_COMPLETION, "manual": HELP_OF_MANUAL,
+    "check": HELP_OF_CHECK, "complete": HELP_OF_COMPLETE, "trace": HELP_OF_TRACE, "draw": HELP_OF_DRAW,
+    "show": HELP_OF_SHOW, "explain": HELP_OF_EXPLAIN, "completion": HELP_OF_COMPLETION, "manual": HELP_OF_MANUAL,
 }
 VERSION = report("linda_kt 0.1.0")
 AGAIN = b"repeat w1\n"

@@ -1,5 +1,5 @@
 -- The exit status of what a command answers.
--- Cited by Carryings, Checkings, Completions, Printings, Statuses, status.rt.
+-- Cited by Carryings, Checkings, Completions, Printings, Statuses, specs/Traced, status.rt.
 use Rattle.std.specs.Prelude.{ℕ, Result, Ok, Err}
 use Rattle.kt_scene.specs.declared.fault.ReplayFault.{ReplayFault}
 use Rattle.kt_run.specs.declared.fault.RunTextFault.{RunTextFault}

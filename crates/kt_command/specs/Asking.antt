@@ -5,8 +5,8 @@ use Rattle.kt_command.specs.declared.request.Request.{Request}
 use Rattle.kt_command.specs.declared.request.Request.TheVariants as requests
 use Rattle.kt_command.specs.declared.request.Task.{Task}
 use Rattle.kt_command.specs.declared.request.Task.TheVariants as tasks
-use Rattle.kt_command.specs.Command.{Asked, Carries, Checks, Completes, Done, Explains, Makes, Prompts, Reads}
-use Rattle.kt_command.specs.Command.{Repeats, Shows, Teaches}
+use Rattle.kt_command.specs.Command.{Asked, Carries, Checks, Completes, Done, Draws, Explains, Makes, Prompts, Reads}
+use Rattle.kt_command.specs.Command.{Repeats, Shows, Teaches, Traces}
 
 -- what is done with a scenario
 abbrev pub task_of : Task → Done
@@ -14,6 +14,8 @@ task_of (tasks.Make command store) = Makes command (option_map (λ s. s.now) sto
 task_of (tasks.Repeat times) = Repeats times
 task_of (tasks.Migrate store) = Carries store.now
 task_of tasks.Check = Checks
+task_of (tasks.Trace form choice) = Traces form choice
+task_of (tasks.Draw drawing) = Draws drawing
 task_of tasks.Complete = Completes
 
 abbrev pub asked : Request → Asked

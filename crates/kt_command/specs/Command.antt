@@ -15,6 +15,9 @@ use Rattle.kt_command.specs.declared.command.Command.{Command}
 use Rattle.kt_command.specs.declared.request.Telling.{Telling}
 use Rattle.kt_command.specs.declared.command.Command.TheVariants.{Replay, Run, RunChaos}
 use Rattle.kt_chaos.specs.declared.drawing.Chaos.{Chaos}
+use Rattle.kt_tell.specs.declared.choice.Choice.{Choice}
+use Rattle.kt_look.specs.declared.telling.Form.{Form}
+use Rattle.kt_look.specs.declared.drawing.Drawing.{Drawing}
 
 -- the bytes of a word, or of a path
 abbrev pub Text : Type 0
@@ -48,13 +51,16 @@ with_chaos (Some chaos) (Run start output) = RunChaos start output chaos
 with_chaos chaos command = command
 
 -- what is done with a scenario: a command over the store in a file or in memory; so many runs, each over a store of its
--- own in memory; the store in a file is carried over; it is read, and nothing else; or it is completed
+-- own in memory; the store in a file is carried over; it is read, and nothing else; it is completed; what is chosen of
+-- its trace is told, in this form; or it is drawn
 pub data Done : Type 0 where
   Makes : Command → Option Text → Done
   Repeats : (times : ℕ) → Done
   Carries : Text → Done
   Checks : Done
   Completes : Done
+  Traces : Form → Choice → Done
+  Draws : Drawing → Done
 
 -- what a program is asked to do: something with the scenario in a file or on standard input, explained so; to say
 -- what a store in a file holds, in words or as JSON; to say what a word means; to write the words of a shell's

@@ -4,6 +4,8 @@ pub mod Answers
 pub mod Asking
 pub mod Carried
 pub mod Repeated
+pub mod Traced
+pub mod Drawn
 pub mod Opened
 pub mod Checked
 pub mod Meant

@@ -12,8 +12,10 @@ use Rattle.kt_command.specs.Completed.{EndsCompleted}
 use Rattle.kt_command.specs.Printed.{Prints}
 use Rattle.kt_command.specs.Repeated.{EndsRepeated}
 use Rattle.kt_command.specs.Shown.{EndsShown}
-use Rattle.kt_command.specs.Command.{Asked, Carries, Checks, Completes, Done, Explains, Makes, Prompts, Reads}
-use Rattle.kt_command.specs.Command.{Repeats, Shows, Teaches, Text}
+use Rattle.kt_command.specs.Traced.{EndsTraced}
+use Rattle.kt_command.specs.Drawn.{EndsDrawn}
+use Rattle.kt_command.specs.Command.{Asked, Carries, Checks, Completes, Done, Draws, Explains, Makes, Prompts, Reads}
+use Rattle.kt_command.specs.Command.{Repeats, Shows, Teaches, Text, Traces}
 use Rattle.kt_words.specs.Grammar.{HasWords, grammar}
 use Rattle.kt_words.specs.Plain.{IsPlain}
 use Rattle.kt_store.specs.Content.{Content}
@@ -56,6 +58,9 @@ EndsTask kind gives connects carries (Carries path) before after old new n =
     EndsCarried connects carries path before after old new n
 EndsTask kind gives connects carries Checks before after old new n = EndsChecked before after old new n
 EndsTask kind gives connects carries Completes before after old new n = EndsCompleted before after old new n
+EndsTask kind gives connects carries (Traces form choice) before after old new n =
+    EndsTraced form choice before after old new n
+EndsTask kind gives connects carries (Draws drawing) before after old new n = EndsDrawn drawing before after old new n
 
 -- a text of printable ASCII in which each command and each of its options stands
 abbrev pub NamesAll : List ℕ → Type 0

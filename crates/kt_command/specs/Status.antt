@@ -1,6 +1,7 @@
 -- How a command ends.
 -- Cited by Carryings, Checkings, Completions, Printings, Statuses, running.rt, specs/Answers, specs/Carried,
---   specs/Checked, specs/Completed, specs/Opened, specs/Repeated, status.rt, `carrying::carry_connected`; other crates.
+--   specs/Checked, specs/Completed, specs/Drawn, specs/Opened, specs/Repeated, status.rt, `carrying::carry_connected`;
+--   other crates.
 use Rattle.std.specs.Prelude.{◌≡◌, ℕ, true}
 use Rattle.kt_store.specs.Content.{empty_content}
 use Rattle.kt_store.specs.Stored.{Stored}

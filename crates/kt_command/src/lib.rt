@@ -6,7 +6,7 @@
 //!   that was opened at the path that is named. A store of the version before is carried over by the journal that made
 //!   it (`carry_over`, clause `told`).
 //! - Stands on: kt_tuple, kt_text, kt_chaos, kt_explain, kt_store, kt_show, kt_model, kt_core, kt_scene, kt_reasons,
-//!   kt_stage, kt_summary, kt_complete, kt_run, kt_trials, kt_words; of the kit: json
+//!   kt_stage, kt_tell, kt_draw, kt_look, kt_summary, kt_complete, kt_run, kt_trials, kt_words; of the kit: json
 //! - Begin in: `request.rt`, then `running.rt` and `carrying.rt`, and `status.rt` for the exit statuses.
 #![tactic(auto)]
 
@@ -15,6 +15,7 @@ mod carrying;
 mod checking;
 mod command;
 mod completing;
+mod drawing;
 mod explainer;
 mod explanation;
 mod meaning;
@@ -27,6 +28,7 @@ mod showing;
 mod shows;
 mod status;
 mod texts;
+mod tracing;
 mod words;
 
 pub use carries::Carries;

@@ -11,6 +11,7 @@ use crate::carrying::carry_over;
 use crate::checking::check_text;
 use crate::command::Command;
 use crate::completing::complete_in_memory;
+use crate::drawing::draw_in_memory;
 use crate::explainer::{Explained, Explainer};
 use crate::meaning::explain_word;
 use crate::opens::Opens;
@@ -21,8 +22,11 @@ use crate::showing::show_copy;
 use crate::shows::Shows;
 use crate::status::{DONE, STORE, STREAM};
 use crate::texts::Texts;
+use crate::tracing::trace_in_memory;
+use kt_look::{Drawing, Form};
 use kt_scene::{Sink, Source};
 use kt_store::CkptStore;
+use kt_tell::Choice;
 use kt_words::{Shell, completion, manual};
 use std::alloc::Global;
 use std::fmt::Display;
@@ -54,6 +58,18 @@ pub enum Task<'a> {
     Check,
     /// A scenario of steps that was cut short is to be completed.
     Complete,
+    /// What happens in a scenario of steps is to be written, a line for each step.
+    Trace {
+        /// In words or as JSON.
+        form: Form,
+        /// Which steps.
+        choice: Choice,
+    },
+    /// A scenario of steps is to be drawn.
+    Draw {
+        /// As a picture or as a page, and which steps.
+        drawing: Drawing,
+    },
 }
 
 /// How what happened is explained on standard error.
@@ -109,10 +125,9 @@ pub struct Terminals {
     pub is_watched: bool,
 }
 
-/// Does what is asked: something with the scenario on standard input or in the file that is named, where a command goes
-/// over a fresh store in memory or over the one that the opener opens at the path that is named, which is opened before
-/// anything is read; or it says what a store holds, or what a word means. Why a fault came is said behind its line
-/// where the request asks for that, or where standard error is watched.
+/// Does what is asked. A command goes over a fresh store in memory, or over the one that the opener opens at the path
+/// that is named, which is opened before anything is read. Why a fault came is said behind its line where the request
+/// asks for that, or where standard error is watched.
 pub fn run_request<
     S: CkptStore + Send + Drop,
     C: Drop,
@@ -281,7 +296,6 @@ fn do_task_in_file<
             )
         }
         Err(why) => {
-            // A standard error that is closed leaves the status alone to tell.
             let _ = writeln!(errors, "scenario: {path}: {why}");
             STREAM
         }
@@ -333,6 +347,12 @@ fn do_task<
         }
         Task::Check => check_text(alloc, reader, writer, errors, explainer),
         Task::Complete => complete_in_memory(alloc, reader, writer, errors, explainer),
+        Task::Trace { form, choice } => {
+            trace_in_memory(alloc, form, choice, reader, writer, errors, explainer)
+        }
+        Task::Draw { drawing } => {
+            draw_in_memory(alloc, drawing, reader, writer, errors, explainer)
+        }
     }
 }
 

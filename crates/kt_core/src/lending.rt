@@ -1,5 +1,5 @@
-//! What a machine lends of its nodes and of what is on its way.
-//! Cited by planning.rt, read_sets.rt, world.rt.
+//! What a machine lends of its nodes and of what is on its way, and a world of its nodes and of its store.
+//! Cited by planning.rt, read_sets.rt, world.rt; other crates.
 
 ghost use Rattle.std.specs.Prelude.{◌≡◌, length, slice_get, IfOk};
 ghost use Rattle.std.specs.Option.{option_copied, option_map};
@@ -10,8 +10,10 @@ ghost use Rattle.kt_model.specs.State.{link, node};
 
 use crate::change::share_in_row;
 use crate::machine::Machine;
+use crate::world::World;
 use kt_node::{AppMessage, Message, Mode, Node};
 use kt_shard::Shard;
+use kt_store::CkptStore;
 use kt_tuple::NodeId;
 use kt_worker::Worker;
 use std::alloc::{AllocError, Global};
@@ -96,5 +98,23 @@ impl Machine {
         } else {
             Ok(None)
         }
+    }
+}
+
+impl<S: CkptStore> World<S> {
+    /// The node, in whatever mode it is; `None` for one that is not in the scene.
+    pub fn node(&self, id: NodeId) -> Option<&Node>
+        ensures { option_map (λ n. n.now.node) result ≡ node self.now.state id }
+    {
+        self.machine.node_at(id)
+    }
+
+    /// Its store, to look at what is stored. Nothing can be written by it.
+    pub fn store(&self) -> &S
+        ensures content { S.content result.now ≡ self.now.state.content }
+        ensures honest { S.is_honest result.now ≡ self.now.is_honest }
+        ensures counts { S.counts result.now ≡ self.now.counts }
+    {
+        &self.store
     }
 }

@@ -1,5 +1,5 @@
 //! The world: what its callers see of it, and its step.
-//! Cited by resuming.rt, start.rt; other crates.
+//! Cited by lending.rt, resuming.rt, start.rt; other crates.
 
 ghost use Rattle.std.specs.Prelude.{◌≡◌, ◌≢◌, ◌↔◌, ◌+◌, false, true, is_some, length, map, slice_get};
 ghost use Rattle.std.specs.Prelude.{IfErr, IfOk, IsTrue, Ok, OnErr, OnOk};

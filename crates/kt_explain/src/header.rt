@@ -12,10 +12,10 @@ use kt_tuple::reading::word_at;
 use std::alloc::{AllocError, Global};
 
 const DATABASE: &str =
-    "this is a database, no scenario: to go on from it, type `linda_kt resume --store DATABASE SCENARIO`";
+    "a database: give the scenario instead, or to go on from it type `linda_kt resume --store DATABASE SCENARIO`";
 
 const DATABASE_OF_RUN: &str =
-    "this is a database, no scenario: to go on from it, type `linda_kt run --resume --store DATABASE SCENARIO`";
+    "a database: give the scenario instead, or to go on from it type `linda_kt run --resume --store DATABASE SCENARIO`";
 
 /// What is wrong with the title or with the line of the shards.
 pub(crate) fn finding_in_head<'a>(

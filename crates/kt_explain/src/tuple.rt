@@ -24,7 +24,7 @@ const KIND_IN_OUT: &str =
     "`int`, `str` and `bool` are no values: write one here, as `1`, `\"a\"` or `true`";
 
 const OPEN_STR: &str =
-    "this quote opens a str, and none closes it: write `\"` where the str ends (`\\\"` does not close it)";
+    "this quote opens a str, and none closes it: write `\"` where the str ends (`\\\"` is a quote within it)";
 
 const NO_ESCAPE: &str =
     "`\\` and this are no escape: take both away (a str has no line break), or write `\\\\` for a backslash";

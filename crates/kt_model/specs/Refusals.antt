@@ -1,5 +1,5 @@
 -- Why a step is refused, by why its owner refuses it, and the numbers of refusals.
--- Cited by error.rt, specs/StepPlan.
+-- Cited by error.rt, specs/StepPlan; other crates.
 use Rattle.std.specs.Prelude.{ℕ}
 use Rattle.kt_store.specs.declared.error.StoreError.TheVariants as stores
 use Rattle.kt_state.specs.declared.refusal.Refusal.{Refusal}

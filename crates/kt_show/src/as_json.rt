@@ -1,5 +1,5 @@
 //! What has a JSON value: values, tuples, templates, operations and answers, and lists of such.
-//! Cited by board_json.rt, node_json.rt, showing_json.rt; whoever calls the trait `AsJson`.
+//! Cited by board_json.rt, node_json.rt, showing_json.rt; other crates; whoever calls the trait `AsJson`.
 
 ghost use Rattle.std.specs.Prelude.{◌≡◌, [], ◌∷◌, ◌++◌, codes, map, OnOk};
 ghost use Rattle.std.specs.Option.{option_copied};
@@ -15,7 +15,7 @@ use kt_tuple::{Answer, Kind, NodeId, Op, Place, Str, Template, Tuple, Value};
 use std::alloc::AllocError;
 
 /// A type with one JSON value for each of its values.
-pub(crate) trait AsJson {
+pub trait AsJson {
     ghost json_of: { Self → Json };
 
     /// Writes its JSON value behind what is written.
@@ -24,7 +24,7 @@ pub(crate) trait AsJson {
 }
 
 /// An array of their JSON values, in this order.
-pub(crate) fn push_array<T: AsJson>(out: &mut Draft, items: &[T]) -> Result<(), AllocError>
+pub fn push_array<T: AsJson>(out: &mut Draft, items: &[T]) -> Result<(), AllocError>
     ensures { OnOk result (out.new ≡ out.old ++ json_tokens (array_of (map T.json_of items.now))) }
 {
     out.begin_array()?;
@@ -36,11 +36,7 @@ pub(crate) fn push_array<T: AsJson>(out: &mut Draft, items: &[T]) -> Result<(), 
 }
 
 /// A member with the JSON value of this.
-pub(crate) fn push_member<T: AsJson>(
-    out: &mut Draft,
-    name: &str,
-    value: &T,
-) -> Result<(), AllocError>
+pub fn push_member<T: AsJson>(out: &mut Draft, name: &str, value: &T) -> Result<(), AllocError>
     ensures { OnOk result (out.new ≡ out.old ++ key name.now ∷ json_tokens (T.json_of value.now)) }
 {
     out.key(name)?;
@@ -48,7 +44,7 @@ pub(crate) fn push_member<T: AsJson>(
 }
 
 /// A member with the JSON value of this, or null where there is none.
-pub(crate) fn push_optional<T: AsJson>(
+pub fn push_optional<T: AsJson>(
     out: &mut Draft,
     name: &str,
     value: Option<&T>,
@@ -64,11 +60,7 @@ pub(crate) fn push_optional<T: AsJson>(
 }
 
 /// A member with an array of their JSON values.
-pub(crate) fn push_list<T: AsJson>(
-    out: &mut Draft,
-    name: &str,
-    items: &[T],
-) -> Result<(), AllocError>
+pub fn push_list<T: AsJson>(out: &mut Draft, name: &str, items: &[T]) -> Result<(), AllocError>
     ensures { OnOk result (out.new ≡ out.old
         ++ key name.now ∷ json_tokens (array_of (map T.json_of items.now))) }
 {

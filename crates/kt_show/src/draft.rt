@@ -18,7 +18,7 @@ use std::marker::Model;
 /// A JSON text while it is written: the tokens so far. Commas and colons come by themselves; that brackets are closed
 /// is for the caller.
 #[derive(Drop)]
-pub(crate) struct Draft {
+pub struct Draft {
     writer: Writer,
     alloc: Global,
 }
@@ -38,7 +38,7 @@ impl Model for Draft {
 
 impl Draft {
     /// Nothing is written yet. It takes no memory.
-    pub(crate) fn new(alloc: Global) -> Draft
+    pub fn new(alloc: Global) -> Draft
         ensures { result ≡ [] }
     {
         Draft {
@@ -48,7 +48,7 @@ impl Draft {
     }
 
     /// The text of what was written, with no space and the shortest escapes.
-    pub(crate) fn finish(self) -> Vec<u8>
+    pub fn finish(self) -> Vec<u8>
         ensures text { result.items ≡ print self }
         ensures read_back { tokens result.items ≡ self }
         ensures utf8 { IsUtf8 result.items }
@@ -56,69 +56,69 @@ impl Draft {
         self.writer.into_inner()
     }
 
-    pub(crate) fn begin_object(&mut self) -> Result<(), AllocError>
+    pub fn begin_object(&mut self) -> Result<(), AllocError>
         ensures { OnOk result (self.new ≡ self.old ++ token.begin_object ∷ []) }
     {
         self.writer.begin_object()
     }
 
-    pub(crate) fn end_object(&mut self) -> Result<(), AllocError>
+    pub fn end_object(&mut self) -> Result<(), AllocError>
         ensures { OnOk result (self.new ≡ self.old ++ token.end_object ∷ []) }
     {
         self.writer.end_object()
     }
 
-    pub(crate) fn begin_array(&mut self) -> Result<(), AllocError>
+    pub fn begin_array(&mut self) -> Result<(), AllocError>
         ensures { OnOk result (self.new ≡ self.old ++ token.begin_array ∷ []) }
     {
         self.writer.begin_array()
     }
 
-    pub(crate) fn end_array(&mut self) -> Result<(), AllocError>
+    pub fn end_array(&mut self) -> Result<(), AllocError>
         ensures { OnOk result (self.new ≡ self.old ++ token.end_array ∷ []) }
     {
         self.writer.end_array()
     }
 
     /// The name of a member, which stands before its value.
-    pub(crate) fn key(&mut self, name: &str) -> Result<(), AllocError>
+    pub fn key(&mut self, name: &str) -> Result<(), AllocError>
         ensures { OnOk result (self.new ≡ self.old ++ token.key name.now ∷ []) }
     {
         self.writer.key(name)
     }
 
-    pub(crate) fn string(&mut self, text: &str) -> Result<(), AllocError>
+    pub fn string(&mut self, text: &str) -> Result<(), AllocError>
         ensures { OnOk result (self.new ≡ self.old ++ token.string text.now ∷ []) }
     {
         self.writer.string(text)
     }
 
-    pub(crate) fn count(&mut self, count: u64) -> Result<(), AllocError>
+    pub fn count(&mut self, count: u64) -> Result<(), AllocError>
         ensures { OnOk result (self.new ≡ self.old ++ token.number (decimal count) ∷ []) }
     {
         self.writer.u64(count)
     }
 
-    pub(crate) fn int(&mut self, int: i64) -> Result<(), AllocError>
+    pub fn int(&mut self, int: i64) -> Result<(), AllocError>
         ensures { OnOk result (self.new ≡ self.old ++ token.number (signed_decimal int) ∷ []) }
     {
         self.writer.i64(int)
     }
 
-    pub(crate) fn boolean(&mut self, truth: bool) -> Result<(), AllocError>
+    pub fn boolean(&mut self, truth: bool) -> Result<(), AllocError>
         ensures { OnOk result (self.new ≡ self.old ++ token.boolean truth ∷ []) }
     {
         self.writer.boolean(truth)
     }
 
-    pub(crate) fn null(&mut self) -> Result<(), AllocError>
+    pub fn null(&mut self) -> Result<(), AllocError>
         ensures { OnOk result (self.new ≡ self.old ++ token.null ∷ []) }
     {
         self.writer.null()
     }
 
     /// The name of the node, as `"w1"`.
-    pub(crate) fn name(&mut self, node: NodeId) -> Result<(), AllocError>
+    pub fn name(&mut self, node: NodeId) -> Result<(), AllocError>
         ensures { OnOk result (self.new ≡ self.old ++ token.string (node_text node) ∷ []) }
     {
         let (letter, number) = match node {

@@ -21,5 +21,7 @@ mod showing;
 mod showing_json;
 mod state;
 
+pub use as_json::{AsJson, push_array, push_list, push_member, push_optional};
+pub use draft::Draft;
 pub use showing::show;
 pub use showing_json::show_json;

@@ -1,6 +1,6 @@
 //! A scenario, read line by line. Each line is judged without memory, and then kept: so want of memory hides no other
 //! fault of a line (docs/DECISIONS.md#values). Room for the places of a command is made behind the line before it.
-//! Cited by reading.rt.
+//! Cited by reading.rt; other crates.
 
 ghost use Rattle.std.specs.Prelude.{◌≡◌, ◌&&◌, ◌+◌, ◌<◌, ◌≤◌, ℕ, List, length, Ok, Err, OnOk, IfErr, IfOk, IsTrue};
 ghost use Rattle.std.specs.Prelude.{None};

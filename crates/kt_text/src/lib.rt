@@ -25,4 +25,4 @@ pub use laws::{
 };
 pub use reading::{MAX_TEXT, line_at, read_scene};
 pub use scenario::{Scenario, Work, WorkKind};
-pub use writing::{push_scenario, write_scene};
+pub use writing::{push_scenario, push_step, write_scene};

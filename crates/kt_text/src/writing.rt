@@ -120,7 +120,8 @@ fn push_steps(out: &mut Vec<u8>, steps: &[Step]) -> Result<(), AllocError>
     Ok(())
 }
 
-fn push_step(out: &mut Vec<u8>, step: Step) -> Result<(), AllocError>
+/// The step as its line says it, behind what is there and without a line feed.
+pub fn push_step(out: &mut Vec<u8>, step: Step) -> Result<(), AllocError>
     ensures { OnOk result (out.new.items ≡ out.old.items ++ step_text step) }
 {
     match step {

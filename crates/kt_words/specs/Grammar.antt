@@ -27,6 +27,8 @@ grammar =
     ∷ command (codes "migrate") (codes "store" ∷ [])
     ∷ command (codes "check") (codes "explain" ∷ codes "json" ∷ [])
     ∷ command (codes "complete") []
+    ∷ command (codes "trace") (codes "from" ∷ codes "to" ∷ codes "node" ∷ codes "json" ∷ [])
+    ∷ command (codes "draw") (codes "html" ∷ codes "from" ∷ codes "to" ∷ [])
     ∷ command (codes "show") (codes "json" ∷ [])
     ∷ command (codes "explain") []
     ∷ command (codes "completion") []

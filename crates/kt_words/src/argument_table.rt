@@ -59,6 +59,8 @@ pub const COMMAND: ArgumentWords = ArgumentWords {
         "migrate",
         "check",
         "complete",
+        "trace",
+        "draw",
         "show",
         "explain",
         "completion",

@@ -18,7 +18,7 @@ const HEAD: &str = "\
 
 _linda_kt() {
     local word=${COMP_WORDS[COMP_CWORD]} before=${COMP_WORDS[COMP_CWORD - 1]}
-    local options='' with_file='' with_number='' argument='' words=''
+    local options='' with_file='' with_other='' argument='' words=''
     if [[ $word == '=' ]]; then
         word=''
     elif [[ $before == '=' ]]; then
@@ -38,7 +38,7 @@ const BEHIND_NAMES: &str = "'
 const TAIL: &str = "        esac
     fi
     COMPREPLY=()
-    if [[ \" $with_number \" == *\" $before \"* ]]; then
+    if [[ \" $with_other \" == *\" $before \"* ]]; then
         return
     fi
     if [[ $word != -* && $argument == file || \" $with_file \" == *\" $before \"* ]]; then
@@ -57,8 +57,8 @@ complete -F _linda_kt linda_kt
 /// How the line begins with the options whose value is a file.
 const FILE_LINE: &str = "                with_file='";
 
-/// How the line begins with those whose value is a number.
-const NUMBER_LINE: &str = "                with_number='";
+/// How the line begins with those whose value it cannot complete.
+const OTHER_LINE: &str = "                with_other='";
 
 /// Appends the script.
 pub(crate) fn push_bash(out: &mut Vec<u8>, commands: &[CommandWords]) -> Result<(), AllocError>
@@ -109,7 +109,7 @@ fn push_case(out: &mut Vec<u8>, command: &CommandWords) -> Result<(), AllocError
     push_options(out, command.options)?;
     push_text(out, "'\n")?;
     push_valued(out, command.options, ValueKind::File, FILE_LINE)?;
-    push_valued(out, command.options, ValueKind::Number, NUMBER_LINE)?;
+    push_valued(out, command.options, ValueKind::Other, OTHER_LINE)?;
     push_arguments(out, command.arguments)?;
     push_text(out, "                ;;\n")
 }

@@ -8,11 +8,13 @@ ghost use Rattle.kt_words.specs.Plain.{is_plain_command};
 
 use crate::argument_table::{COMMAND, NUMBER, SCENARIO, SHELL, STORE_FILE, STORE_JOURNAL};
 use crate::option_table::{
-    CHAOS, EXPLAIN, JOURNAL, JSON, JSON_OF_STORE, KEPT_STORE, OLD_STORE, RESUME, SEED, STORE, TIMES,
+    CHAOS, EXPLAIN, FIRST_DRAWN, FROM, HTML, JOURNAL, JSON, JSON_OF_STORE, JSON_OF_TRACE,
+    KEPT_STORE, LAST_DRAWN, NODE, OLD_STORE, RESUME, SEED, STORE, TIMES, TO,
 };
 use crate::texts::{
-    CHECK_ABOUT, COMPLETE_ABOUT, COMPLETION_ABOUT, EXPLAIN_NUMBER_ABOUT, HELP_COMMAND_ABOUT,
-    MANUAL_ABOUT, MIGRATE_ABOUT, REPLAY_ABOUT, RESUME_COMMAND_ABOUT, RUN_ABOUT, SHOW_ABOUT,
+    CHECK_ABOUT, COMPLETE_ABOUT, COMPLETION_ABOUT, DRAW_ABOUT, EXPLAIN_NUMBER_ABOUT,
+    HELP_COMMAND_ABOUT, MANUAL_ABOUT, MIGRATE_ABOUT, REPLAY_ABOUT, RESUME_COMMAND_ABOUT, RUN_ABOUT,
+    SHOW_ABOUT, TRACE_ABOUT,
 };
 use crate::words::CommandWords;
 
@@ -73,6 +75,22 @@ pub const COMPLETE: CommandWords = CommandWords {
     options: &[],
 };
 
+/// `trace`.
+pub const TRACE: CommandWords = CommandWords {
+    name: "trace",
+    about: TRACE_ABOUT,
+    arguments: &[SCENARIO],
+    options: &[FROM, TO, NODE, JSON_OF_TRACE],
+};
+
+/// `draw`.
+pub const DRAW: CommandWords = CommandWords {
+    name: "draw",
+    about: DRAW_ABOUT,
+    arguments: &[SCENARIO],
+    options: &[HTML, FIRST_DRAWN, LAST_DRAWN],
+};
+
 /// `show`.
 pub const SHOW: CommandWords = CommandWords {
     name: "show",
@@ -121,6 +139,8 @@ pub const COMMANDS: &[CommandWords] = &[
     MIGRATE,
     CHECK,
     COMPLETE,
+    TRACE,
+    DRAW,
     SHOW,
     EXPLAIN_NUMBER,
     COMPLETION,

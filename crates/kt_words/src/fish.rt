@@ -141,7 +141,7 @@ fn flags_of(kind: ValueKind) -> &'static str
     match kind {
         ValueKind::Flag => " -d '",
         ValueKind::File => " -rF -d '",
-        ValueKind::Number => " -x -d '",
+        ValueKind::Other => " -x -d '",
     }
 }
 

@@ -2,9 +2,9 @@
 //! Cited by command_table.rt.
 
 use crate::texts::{
-    CHAOS_HELP, EXPLAIN_HELP, HELP_HELP, JOURNAL_HELP, JSON_HELP, JSON_OF_STORE_HELP,
-    KEPT_STORE_HELP, OLD_STORE_HELP, RESUME_HELP, SEED_HELP, STORE_HELP, TIMES_HELP,
-    VERSION_FLAG_HELP,
+    CHAOS_HELP, EXPLAIN_HELP, FIRST_DRAWN_HELP, FROM_HELP, HELP_HELP, HTML_HELP, JOURNAL_HELP,
+    JSON_HELP, JSON_OF_STORE_HELP, JSON_OF_TRACE_HELP, KEPT_STORE_HELP, LAST_DRAWN_HELP, NODE_HELP,
+    OLD_STORE_HELP, RESUME_HELP, SEED_HELP, STORE_HELP, TIMES_HELP, TO_HELP, VERSION_FLAG_HELP,
 };
 use crate::words::OptionWords;
 
@@ -93,6 +93,62 @@ pub const JSON_OF_STORE: OptionWords = OptionWords {
     long: "json",
     value: None,
     help: JSON_OF_STORE_HELP,
+    is_required: false,
+};
+
+/// `--from N` of `trace`.
+pub const FROM: OptionWords = OptionWords {
+    long: "from",
+    value: Some("N"),
+    help: FROM_HELP,
+    is_required: false,
+};
+
+/// `--to N` of `trace`.
+pub const TO: OptionWords = OptionWords {
+    long: "to",
+    value: Some("N"),
+    help: TO_HELP,
+    is_required: false,
+};
+
+/// `--node NODE`.
+pub const NODE: OptionWords = OptionWords {
+    long: "node",
+    value: Some("NODE"),
+    help: NODE_HELP,
+    is_required: false,
+};
+
+/// `--json` of `trace`.
+pub const JSON_OF_TRACE: OptionWords = OptionWords {
+    long: "json",
+    value: None,
+    help: JSON_OF_TRACE_HELP,
+    is_required: false,
+};
+
+/// `--html`.
+pub const HTML: OptionWords = OptionWords {
+    long: "html",
+    value: None,
+    help: HTML_HELP,
+    is_required: false,
+};
+
+/// `--from N` of `draw`.
+pub const FIRST_DRAWN: OptionWords = OptionWords {
+    long: "from",
+    value: Some("N"),
+    help: FIRST_DRAWN_HELP,
+    is_required: false,
+};
+
+/// `--to N` of `draw`.
+pub const LAST_DRAWN: OptionWords = OptionWords {
+    long: "to",
+    value: Some("N"),
+    help: LAST_DRAWN_HELP,
     is_required: false,
 };
 

@@ -47,6 +47,7 @@ Prints the version.
 .SH EXIT STATUS
 With a status other than 0 a line on standard error says what it was, and nothing is on standard output; only where
 writing failed may a part be there.
+Of a scenario with a step that is refused \fBtrace\fR and \fBdraw\fR show what was before, and say then what it was.
 "#;
 
 /// What stands behind the statuses.

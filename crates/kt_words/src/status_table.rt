@@ -22,7 +22,7 @@ const STATUSES: &[StatusWords] = &[
     },
     StatusWords {
         number: "2",
-        text: "The words of the command line are wrong.",
+        text: "The words of the command line are wrong, or choose more steps than a picture can have: `draw: ..`.",
     },
     StatusWords {
         number: "3",

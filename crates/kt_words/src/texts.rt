@@ -37,13 +37,39 @@ pub const SEED_HELP: &str =
 
 /// What is said of the option `explain`.
 pub const EXPLAIN_HELP: &str =
-    "Says behind the line of a fault why it came, as on a terminal without the flag, and behind a report what it came to";
+    "Says behind the line of a fault why it came, as on a terminal without the flag, and behind a \
+    report what it came to";
 
 /// What is said of the option `json`.
 pub const JSON_HELP: &str = "Says what --explain says as one JSON object on a line";
 
 /// What is said of the option `json`.
 pub const JSON_OF_STORE_HELP: &str = "Writes what the store holds as JSON";
+
+/// What is said of the option `json`.
+pub const JSON_OF_TRACE_HELP: &str = "Writes one JSON object on a line for each step";
+
+/// What is said of the option `from`.
+pub const FROM_HELP: &str = "The number of the first step that is told, counted from 1";
+
+/// What is said of the option `to`.
+pub const TO_HELP: &str = "The number of the last step that is told";
+
+/// What is said of the option `node`.
+pub const NODE_HELP: &str =
+    "Tells the steps of one node alone, as w1 or s2, and those that bring what it sent";
+
+/// What is said of the option `html`.
+pub const HTML_HELP: &str =
+    "Draws a page of HTML, in which a person goes through the scenario step by step";
+
+/// What is said of the option `from`.
+pub const FIRST_DRAWN_HELP: &str =
+    "The number of the first step that is drawn, counted from 1; those before it are made";
+
+/// What is said of the option `to`.
+pub const LAST_DRAWN_HELP: &str =
+    "The number of the last step that is made; what survives is what does so behind it";
 
 /// What is said of the option `help`.
 pub const HELP_HELP: &str = "Print help";
@@ -76,6 +102,13 @@ pub const CHECK_ABOUT: &str =
 /// What is said of the command `complete`.
 pub const COMPLETE_ABOUT: &str =
     "Writes the scenario with the steps behind its own that bring it to its end";
+
+/// What is said of the command `trace`.
+pub const TRACE_ABOUT: &str =
+    "Writes what happens in the scenario of steps, or in the journal: a line for each step";
+
+/// What is said of the command `draw`.
+pub const DRAW_ABOUT: &str = "Draws the scenario of steps, or the journal, as an SVG picture";
 
 /// What is said of the command `show`.
 pub const SHOW_ABOUT: &str =

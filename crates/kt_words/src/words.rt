@@ -11,7 +11,7 @@ pub struct OptionWords {
     /// Its name, which stands behind `--`.
     pub long: &'static str,
     /// What stands for its value in texts, as `FILE`; `None` of a flag. `FILE` is the name of a file, and any other is
-    /// a number.
+    /// something that a shell cannot complete.
     pub value: Option<&'static str>,
     /// What it does, in one line.
     pub help: &'static str,
@@ -52,8 +52,8 @@ pub enum ValueKind {
     Flag,
     /// The name of a file.
     File,
-    /// A number.
-    Number,
+    /// A number, or something else that a shell cannot complete.
+    Other,
 }
 
 impl OptionWords {
@@ -67,7 +67,7 @@ impl OptionWords {
         if value == "FILE" {
             ValueKind::File
         } else {
-            ValueKind::Number
+            ValueKind::Other
         }
     }
 }

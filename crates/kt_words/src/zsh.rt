@@ -155,7 +155,7 @@ fn bracket_of(kind: ValueKind) -> &'static str
 {
     match kind {
         ValueKind::Flag => "[",
-        ValueKind::File | ValueKind::Number => "=[",
+        ValueKind::File | ValueKind::Other => "=[",
     }
 }
 

@@ -45,7 +45,7 @@ journal_rule = record (new_rule (codes "journal")) { long = Some (codes "journal
 abbrev pub resume_rule : Rule
 resume_rule = record (new_rule (codes "resume")) { long = Some (codes "resume"); action = Some SetTrue }
 
--- an option of this name whose one value is a number
+-- an option of this name with one value, which is read behind the grammar
 abbrev pub number_rule : Text → Rule
 number_rule id = record (new_rule id) { long = Some id; value_names = 1 }
 
@@ -80,6 +80,27 @@ check_shape = record (new_shape (codes "check")) { rules = scenario_rule ∷ exp
 
 abbrev pub complete_shape : Shape
 complete_shape = record (new_shape (codes "complete")) { rules = scenario_rule ∷ [] }
+
+-- `trace` with what chooses its steps, and without its flag
+abbrev pub worded_trace_shape : Shape
+worded_trace_shape = record (new_shape (codes "trace")) {
+  rules = scenario_rule ∷ number_rule (codes "from") ∷ number_rule (codes "to") ∷ number_rule (codes "node") ∷ [];
+}
+
+abbrev pub trace_shape : Shape
+trace_shape = record worded_trace_shape {
+  rules = scenario_rule ∷ number_rule (codes "from") ∷ number_rule (codes "to") ∷ number_rule (codes "node")
+      ∷ json_rule ∷ [];
+}
+
+-- the flag `--html`
+abbrev pub html_rule : Rule
+html_rule = record (new_rule (codes "html")) { long = Some (codes "html"); action = Some SetTrue }
+
+abbrev pub draw_shape : Shape
+draw_shape = record (new_shape (codes "draw")) {
+  rules = scenario_rule ∷ html_rule ∷ number_rule (codes "from") ∷ number_rule (codes "to") ∷ [];
+}
 
 -- a word that must stand, and has its place and no name
 abbrev pub word_rule : Text → Rule
@@ -127,9 +148,13 @@ abbrev pub reading_app : App
 reading_app =
     with_subcommand (with_subcommand (with_subcommand running_app migrate_shape) check_shape) complete_shape
 
+-- that of these and of those that show what happens in a scenario
+abbrev pub looking_app : App
+looking_app = with_subcommand (with_subcommand reading_app trace_shape) draw_shape
+
 -- that of these and of those that say what was stored or printed
 abbrev pub telling_app : App
-telling_app = with_subcommand (with_subcommand reading_app show_shape) explain_shape
+telling_app = with_subcommand (with_subcommand looking_app show_shape) explain_shape
 
 -- the command line
 abbrev pub command_line_app : App

@@ -1,26 +1,22 @@
 -- The words of the command line: what they ask, and what is wrong with them.
--- Cited by Parsed, Statuses, program.rt, specs/Status, trials.rt, words.rt, `program::run_arguments`,
---   `words::read_words`.
+-- Cited by Parsed, Statuses, looking.rt, program.rt, specs/Examples, specs/Status, trials.rt, words.rt,
+--   `program::run_arguments`, `words::read_words`.
 use Rattle.std.specs.Prelude.{◌≡◌, ◌≢◌, ◌⊎◌, ℕ, Bool, true, false, not, ◌&&◌, ◌||◌, List, [], ◌∷◌, Option, None, Some}
-use Rattle.std.specs.Prelude.{codes, refl, Result, Ok, Err}
+use Rattle.std.specs.Prelude.{codes, Result, Ok, Err, nat_le}
 use Rattle.std.specs.Prelude.{is_some, unwrap_or, if◌then◌else◌}
 use Rattle.clap.specs.Kinds.{or_else}
 use Rattle.clap.specs.Words.{IsAmong, Kinds, Row, Text, fault_of, first_of}
 use Rattle.clap.specs.Words.{subcommand_of}
 use Rattle.clap.specs.declared.error.kind.ErrorKind.TheVariants.{ArgumentConflict, DisplayHelp, DisplayVersion}
-use Rattle.clap.specs.declared.error.kind.ErrorKind.TheVariants.{InvalidSubcommand, InvalidValue}
+use Rattle.clap.specs.declared.error.kind.ErrorKind.TheVariants.{InvalidValue}
 use Rattle.clap.specs.declared.error.kind.ErrorKind.TheVariants.{MissingRequiredArgument, MissingSubcommand}
-use Rattle.clap.specs.declared.error.kind.ErrorKind.TheVariants.{UnknownArgument, ValueValidation}
-use Rattle.clap.proofs.OnLiterals.{clap_on_literals}
-use Rattle.kt_run.specs.declared.running.Output.TheVariants as outputs
+use Rattle.clap.specs.declared.error.kind.ErrorKind.TheVariants.{ValueValidation}
 use Rattle.kt_command.specs.declared.command.Command.{Command}
-use Rattle.kt_command.specs.declared.command.Command.TheVariants.{Replay, Run, RunChaos}
-use Rattle.kt_command.specs.Command.{Asked, Carries, Checks, Completes, Done, Explains, Makes, Open, Prompts, Reads}
-use Rattle.kt_command.specs.Command.{Repeats, Resume, Shows, Teaches, command_of, is_word, with_chaos}
+use Rattle.kt_command.specs.Command.{Asked, Carries, Checks, Completes, Done, Draws, Explains, Makes, Prompts, Reads}
+use Rattle.kt_command.specs.Command.{Repeats, Shows, Teaches, Traces, command_of, is_word, with_chaos}
 use Rattle.kt_chaos.specs.declared.drawing.Chaos.{Chaos}
 use Rattle.kt_words.specs.Shell.{shell_of}
 use Rattle.kt_words.specs.declared.shell.Shell.{Shell}
-use Rattle.kt_words.specs.declared.shell.Shell.TheVariants.{Fish}
 use Rattle.kt_command.specs.Silence.{is_silent}
 use Rattle.kt_command.specs.declared.request.Telling.{Telling}
 use Rattle.kt_command.specs.declared.request.Telling.TheVariants as tellings
@@ -28,9 +24,16 @@ use Rattle.kt_command.specs.declared.request.Terminals.{Terminals}
 use Rattle.std.specs.Option.{option_map_or}
 use Rattle.linda_kt.specs.Grammar.{command_line_app}
 use Rattle.linda_kt.specs.declared.words.Misfit.{Misfit}
-use Rattle.linda_kt.specs.declared.words.Misfit.TheVariants.{NoChaos, NoCommand, NoFile, NoSeed, NoShell, OneRun}
-use Rattle.linda_kt.specs.declared.words.Misfit.TheVariants.{WrongChaos, WrongSeed, WrongTimes}
-use Rattle.linda_kt.specs.Numbers.{count_of, number_of, times_of}
+use Rattle.linda_kt.specs.declared.looking.TheConstants.{LAST_STEP}
+use Rattle.linda_kt.specs.declared.words.Misfit.TheVariants.{NoChaos, NoCommand, NoFile, NoSeed, NoShell, NoSteps}
+use Rattle.linda_kt.specs.declared.words.Misfit.TheVariants.{OneRun, WrongChaos, WrongFrom, WrongNode, WrongSeed}
+use Rattle.linda_kt.specs.declared.words.Misfit.TheVariants.{WrongTimes, WrongTo}
+use Rattle.linda_kt.specs.Numbers.{count_of, node_named, number_of, step_of, times_of}
+use Rattle.kt_look.specs.declared.drawing.Kind.{Kind}
+use Rattle.kt_look.specs.declared.drawing.Kind.TheVariants as kinds
+use Rattle.kt_look.specs.declared.telling.Form.{Form}
+use Rattle.kt_look.specs.declared.telling.Form.TheVariants as forms
+use Rattle.kt_tuple.specs.declared.node.NodeId.{NodeId}
 
 -- a flag stands among a command's words: its text is that of `true` then
 abbrev pub is_true : Option Text → Bool
@@ -141,6 +144,68 @@ done_of name rows =
     else if is_word name (codes "migrate") then Ok (Carries (required_text (first_of (codes "store") rows)))
     else run_or_made_of name rows
 
+-- ---- what shows what happens in a scenario
+
+-- what is done with the first value, where there is one
+abbrev pub and_then : {X Y : Type 0} → Result X Misfit → (X → Result Y Misfit) → Result Y Misfit
+and_then (Ok x) f = f x
+and_then (Err misfit) f = Err misfit
+
+-- the number of a step that is read, or why there is none
+abbrev pub step_read : Misfit → Option ℕ → Result ℕ Misfit
+step_read misfit None = Err misfit
+step_read misfit (Some number) = Ok number
+
+-- the number of a step that stands there, and else this one
+abbrev pub step_given : ℕ → Misfit → Option Text → Result ℕ Misfit
+step_given default misfit None = Ok default
+step_given default misfit (Some text) = step_read misfit (step_of text)
+
+abbrev pub in_order : ℕ → ℕ → Result (ℕ × ℕ) Misfit
+in_order from to = if nat_le from to then Ok (from, to) else Err NoSteps
+
+-- the numbers of the first and of the last step that are chosen: all, where none is named
+abbrev pub range_of : List Row → Result (ℕ × ℕ) Misfit
+range_of rows =
+    and_then (step_given 1 WrongFrom (first_of (codes "from") rows))
+    (λ from. and_then (step_given LAST_STEP WrongTo (first_of (codes "to") rows)) (λ to. in_order from to))
+
+-- the node that is read, or why there is none
+abbrev pub node_read : Option NodeId → Result (Option NodeId) Misfit
+node_read None = Err WrongNode
+node_read (Some node) = Ok (Some node)
+
+-- the node whose steps alone are told, if one is named
+abbrev pub node_given : Option Text → Result (Option NodeId) Misfit
+node_given None = Ok None
+node_given (Some text) = node_read (node_named text)
+
+-- in which form a trace is told
+abbrev pub form_of : List Row → Form
+form_of rows = if has_flag (codes "json") rows then forms.Json else forms.Words
+
+abbrev pub traces : Form → ℕ × ℕ → Option NodeId → Done
+traces form range node = Traces form (record { from = range.0; to = range.1; node = node })
+
+abbrev pub trace_of : List Row → Result Done Misfit
+trace_of rows =
+    and_then (range_of rows)
+    (λ range. told_as (traces (form_of rows) range) (node_given (first_of (codes "node") rows)))
+
+-- a picture or a page
+abbrev pub drawn_kind : List Row → Kind
+drawn_kind rows = if has_flag (codes "html") rows then kinds.Page else kinds.Picture
+
+abbrev pub draws : Kind → ℕ × ℕ → Done
+draws kind range = Draws (record { kind = kind; from = range.0; to = range.1 })
+
+abbrev pub draw_of : List Row → Result Done Misfit
+draw_of rows = told_as (draws (drawn_kind rows)) (range_of rows)
+
+-- something that shows what happens in a scenario: no explanation can be asked for
+abbrev pub looks : List Row → Result Done Misfit → Result Asked Misfit
+looks rows = told_as (λ done. Reads done (scenario_of rows) tellings.Nothing)
+
 -- a shell's completion, where the shell is known
 abbrev pub prompts : Option Shell → Result Asked Misfit
 prompts None = Err NoShell
@@ -154,6 +219,8 @@ asked_of name rows =
     else if is_word name (codes "explain") then Ok (Explains (required_text (first_of (codes "meaning") rows)))
     else if is_word name (codes "completion") then prompts (shell_of (required_text (first_of (codes "shell") rows)))
     else if is_word name (codes "manual") then Ok Teaches
+    else if is_word name (codes "trace") then looks rows (trace_of rows)
+    else if is_word name (codes "draw") then looks rows (draw_of rows)
     else reads rows (done_of name rows)
 
 abbrev pub asked_of_met : Option (Text × List Row) → Result Asked Misfit
@@ -182,6 +249,10 @@ kinds_of WrongSeed = ValueValidation ∷ []
 kinds_of NoSeed = MissingRequiredArgument ∷ []
 kinds_of NoChaos = MissingRequiredArgument ∷ []
 kinds_of OneRun = ArgumentConflict ∷ []
+kinds_of WrongFrom = ValueValidation ∷ []
+kinds_of WrongTo = ValueValidation ∷ []
+kinds_of NoSteps = ValueValidation ∷ []
+kinds_of WrongNode = ValueValidation ∷ []
 
 abbrev pub misfit_kinds : Result Asked Misfit → Kinds
 misfit_kinds (Ok asked) = []
@@ -199,203 +270,3 @@ AskForHelp words = IsAmong DisplayHelp (words_fault words) ⊎ IsAmong DisplayVe
 -- the words name no command and do not ask for help
 abbrev pub AreWrong : List Text → Type 0
 AreWrong words = (words_fault words ≢ []) × (AskForHelp words → ⊥)
-
--- `replay` has no fault and names the command, and no file
-pub replay_passes : (words_fault (codes "replay" ∷ []) ≡ [])
-    × (asked_by (codes "replay" ∷ []) ≡ Some (Reads (Makes (Replay Open) None) None tellings.Nothing))
-unfolding clap_on_literals
-replay_passes = (refl, refl)
-
--- a file is named behind `--store`, as a word of its own or behind `=`
-pub store_passes : (words_fault (codes "replay" ∷ codes "--store" ∷ codes "a.db" ∷ []) ≡ [])
-    × (asked_by (codes "replay" ∷ codes "--store" ∷ codes "a.db" ∷ [])
-    ≡ Some (Reads (Makes (Replay Open) (Some (codes "a.db"))) None tellings.Nothing))
-    × (words_fault (codes "replay" ∷ codes "--store=a.db" ∷ []) ≡ [])
-    × (asked_by (codes "replay" ∷ codes "--store=a.db" ∷ [])
-    ≡ Some (Reads (Makes (Replay Open) (Some (codes "a.db"))) None tellings.Nothing))
-unfolding clap_on_literals
-store_passes = (refl, refl, refl, refl)
-
--- `run` has no fault either, with its flag or without it, and with a file
-pub run_passes : (words_fault (codes "run" ∷ []) ≡ [])
-    × (asked_by (codes "run" ∷ []) ≡ Some (Reads (Makes (Run Open outputs.Report) None) None tellings.Nothing))
-    × (words_fault (codes "run" ∷ codes "--journal" ∷ []) ≡ [])
-    × (asked_by (codes "run" ∷ codes "--journal" ∷ [])
-    ≡ Some (Reads (Makes (Run Open outputs.Journal) None) None tellings.Nothing))
-    × (words_fault (codes "run" ∷ codes "--store" ∷ codes "a.db" ∷ codes "--journal" ∷ []) ≡ [])
-    × (asked_by (codes "run" ∷ codes "--store" ∷ codes "a.db" ∷ codes "--journal" ∷ [])
-    ≡ Some (Reads (Makes (Run Open outputs.Journal) (Some (codes "a.db"))) None tellings.Nothing))
-unfolding clap_on_literals
-run_passes = (refl, refl, refl, refl, refl, refl)
-
--- `resume` has no fault with its file, which it names, and wants it
-pub resume_passes : (words_fault (codes "resume" ∷ codes "--store" ∷ codes "a.db" ∷ []) ≡ [])
-    × (asked_by (codes "resume" ∷ codes "--store" ∷ codes "a.db" ∷ [])
-    ≡ Some (Reads (Makes (Replay Resume) (Some (codes "a.db"))) None tellings.Nothing))
-unfolding clap_on_literals
-resume_passes = (refl, refl)
-
-pub resume_wants_a_file : words_fault (codes "resume" ∷ []) ≡ MissingRequiredArgument ∷ []
-unfolding clap_on_literals
-resume_wants_a_file = refl
-
--- so does a run that goes on from a file, with its journal or without
-pub resumed_run_passes : (words_fault (codes "run" ∷ codes "--resume" ∷ codes "--store" ∷ codes "a.db" ∷ []) ≡ [])
-    × (asked_by (codes "run" ∷ codes "--resume" ∷ codes "--store" ∷ codes "a.db" ∷ [])
-    ≡ Some (Reads (Makes (Run Resume outputs.Report) (Some (codes "a.db"))) None tellings.Nothing))
-    × (asked_by (codes "run" ∷ codes "--store" ∷ codes "a.db" ∷ codes "--journal" ∷ codes "--resume" ∷ [])
-    ≡ Some (Reads (Makes (Run Resume outputs.Journal) (Some (codes "a.db"))) None tellings.Nothing))
-unfolding clap_on_literals
-resumed_run_passes = (refl, refl, refl)
-
-pub resumed_run_wants_a_file : words_fault (codes "run" ∷ codes "--resume" ∷ []) ≡ MissingRequiredArgument ∷ []
-unfolding clap_on_literals
-resumed_run_wants_a_file = refl
-
--- a run has no fault that is to be made several times, of which the words say how many, from 1 to 10000
-pub times_passes : (words_fault (codes "run" ∷ codes "--times" ∷ codes "20" ∷ []) ≡ [])
-    × (asked_by (codes "run" ∷ codes "--times" ∷ codes "20" ∷ []) ≡ Some (Reads (Repeats 20) None tellings.Nothing))
-    × (asked_by (codes "run" ∷ codes "--times=10000" ∷ codes "a.scn" ∷ codes "--explain" ∷ [])
-    ≡ Some (Reads (Repeats 10000) (Some (codes "a.scn")) tellings.Words))
-unfolding clap_on_literals
-times_passes = (refl, refl, refl)
-
-pub times_fails : (words_fault (codes "run" ∷ codes "--times" ∷ codes "0" ∷ []) ≡ ValueValidation ∷ [])
-    × (words_fault (codes "run" ∷ codes "--times" ∷ codes "10001" ∷ []) ≡ ValueValidation ∷ [])
-    × (words_fault (codes "run" ∷ codes "--times" ∷ codes "x" ∷ []) ≡ ValueValidation ∷ [])
-    × (words_fault (codes "run" ∷ codes "--times" ∷ codes "" ∷ []) ≡ ValueValidation ∷ [])
-    × (words_fault (codes "run" ∷ codes "--times" ∷ codes "20" ∷ codes "--journal" ∷ []) ≡ ArgumentConflict ∷ [])
-    × (words_fault (codes "replay" ∷ codes "--times" ∷ codes "20" ∷ []) ≡ UnknownArgument ∷ [])
-unfolding clap_on_literals
-times_fails = (refl, refl, refl, refl, refl, refl)
-
--- nor has one with random fault lines, where the words say how many, from 1 to 10000, and by which seed
-pub chaos_passes : (words_fault (codes "run" ∷ codes "--chaos" ∷ codes "3" ∷ codes "--seed" ∷ codes "7" ∷ []) ≡ [])
-    × (asked_by (codes "run" ∷ codes "--chaos" ∷ codes "3" ∷ codes "--seed" ∷ codes "7" ∷ [])
-    ≡ Some (Reads (Makes (RunChaos Open outputs.Report (record { count = 3; seed = 7 })) None) None tellings.Nothing))
-    × (asked_by (codes "run" ∷ codes "--seed=0" ∷ codes "--chaos=1" ∷ codes "--store=a.db" ∷ codes "--resume"
-    ∷ codes "--journal" ∷ [])
-    ≡ Some (Reads (Makes (RunChaos Resume outputs.Journal (record { count = 1; seed = 0 })) (Some (codes "a.db"))) None
-    tellings.Nothing))
-unfolding clap_on_literals
-chaos_passes = (refl, refl, refl)
-
-pub chaos_fails : (words_fault (codes "run" ∷ codes "--chaos" ∷ codes "3" ∷ []) ≡ MissingRequiredArgument ∷ [])
-    × (words_fault (codes "run" ∷ codes "--seed" ∷ codes "7" ∷ []) ≡ MissingRequiredArgument ∷ [])
-    × (words_fault (codes "run" ∷ codes "--chaos=0" ∷ codes "--seed=7" ∷ []) ≡ ValueValidation ∷ [])
-    × (words_fault (codes "run" ∷ codes "--chaos=3" ∷ codes "--seed=x" ∷ []) ≡ ValueValidation ∷ [])
-    × (words_fault (codes "run" ∷ codes "--chaos=3" ∷ codes "--seed=18446744073709551616" ∷ []) ≡ ValueValidation ∷ [])
-    × (words_fault (codes "run" ∷ codes "--chaos=3" ∷ codes "--seed=7" ∷ codes "--times=2" ∷ [])
-    ≡ ArgumentConflict ∷ [])
-unfolding clap_on_literals
-chaos_fails = (refl, refl, refl, refl, refl, refl)
-
--- a command has no fault with the flag `--explain` or `--json`, and asks then to be explained so
-pub explain_passes : (words_fault (codes "replay" ∷ codes "--explain" ∷ []) ≡ [])
-    × (asked_by (codes "replay" ∷ codes "--explain" ∷ []) ≡ Some (Reads (Makes (Replay Open) None) None tellings.Words))
-    × (asked_by (codes "run" ∷ codes "--explain" ∷ codes "--journal" ∷ [])
-    ≡ Some (Reads (Makes (Run Open outputs.Journal) None) None tellings.Words))
-    × (asked_by (codes "resume" ∷ codes "--store" ∷ codes "a.db" ∷ codes "--explain" ∷ [])
-    ≡ Some (Reads (Makes (Replay Resume) (Some (codes "a.db"))) None tellings.Words))
-    × (asked_by (codes "replay" ∷ codes "--json" ∷ codes "--explain" ∷ [])
-    ≡ Some (Reads (Makes (Replay Open) None) None tellings.Json))
-unfolding clap_on_literals
-explain_passes = (refl, refl, refl, refl, refl)
-
--- `migrate` has no fault with its file, which it names, and wants it
-pub migrate_passes : (words_fault (codes "migrate" ∷ codes "--store" ∷ codes "a.db" ∷ []) ≡ [])
-    × (asked_by (codes "migrate" ∷ codes "--store" ∷ codes "a.db" ∷ [])
-    ≡ Some (Reads (Carries (codes "a.db")) None tellings.Nothing))
-unfolding clap_on_literals
-migrate_passes = (refl, refl)
-
-pub migrate_wants_a_file : words_fault (codes "migrate" ∷ []) ≡ MissingRequiredArgument ∷ []
-unfolding clap_on_literals
-migrate_wants_a_file = refl
-
--- a scenario is named before the options or behind them; `-` is standard input
-pub scenario_passes : (words_fault (codes "replay" ∷ codes "a.scn" ∷ []) ≡ [])
-    × (asked_by (codes "replay" ∷ codes "a.scn" ∷ [])
-    ≡ Some (Reads (Makes (Replay Open) None) (Some (codes "a.scn")) tellings.Nothing))
-    × (asked_by (codes "run" ∷ codes "--journal" ∷ codes "a.scn" ∷ [])
-    ≡ Some (Reads (Makes (Run Open outputs.Journal) None) (Some (codes "a.scn")) tellings.Nothing))
-    × (words_fault (codes "replay" ∷ codes "-" ∷ []) ≡ [])
-    × (asked_by (codes "replay" ∷ codes "-" ∷ []) ≡ Some (Reads (Makes (Replay Open) None) None tellings.Nothing))
-unfolding clap_on_literals
-scenario_passes = (refl, refl, refl, refl, refl)
-
--- `check` reads a text alone
-pub check_passes : (words_fault (codes "check" ∷ []) ≡ [])
-    × (asked_by (codes "check" ∷ []) ≡ Some (Reads Checks None tellings.Nothing))
-    × (asked_by (codes "check" ∷ codes "a.scn" ∷ []) ≡ Some (Reads Checks (Some (codes "a.scn")) tellings.Nothing))
-unfolding clap_on_literals
-check_passes = (refl, refl, refl)
-
--- `explain` has no fault with its word, which it names, and wants it
-pub meaning_passes : (words_fault (codes "explain" ∷ codes "3" ∷ []) ≡ [])
-    × (asked_by (codes "explain" ∷ codes "3" ∷ []) ≡ Some (Explains (codes "3")))
-    × (words_fault (codes "explain" ∷ []) ≡ MissingRequiredArgument ∷ [])
-unfolding clap_on_literals
-meaning_passes = (refl, refl, refl)
-
--- so do `complete`, which reads a scenario; `show`, with its file; `completion`, with a shell; and `manual`
-pub complete_passes : (words_fault (codes "complete" ∷ []) ≡ [])
-    × (asked_by (codes "complete" ∷ codes "a.scn" ∷ [])
-    ≡ Some (Reads Completes (Some (codes "a.scn")) tellings.Nothing))
-unfolding clap_on_literals
-complete_passes = (refl, refl)
-
-pub show_passes : (words_fault (codes "show" ∷ codes "a.db" ∷ []) ≡ [])
-    × (asked_by (codes "show" ∷ codes "a.db" ∷ []) ≡ Some (Shows (codes "a.db") false))
-    × (asked_by (codes "show" ∷ codes "--json" ∷ codes "a.db" ∷ []) ≡ Some (Shows (codes "a.db") true))
-    × (words_fault (codes "show" ∷ []) ≡ MissingRequiredArgument ∷ [])
-unfolding clap_on_literals
-show_passes = (refl, refl, refl, refl)
-
-pub completion_passes : (asked_by (codes "completion" ∷ codes "fish" ∷ []) ≡ Some (Prompts Fish))
-    × (words_fault (codes "completion" ∷ codes "sh" ∷ []) ≡ InvalidValue ∷ [])
-    × (words_fault (codes "completion" ∷ []) ≡ MissingRequiredArgument ∷ [])
-unfolding clap_on_literals
-completion_passes = (refl, refl, refl)
-
-pub manual_passes : (words_fault (codes "manual" ∷ []) ≡ []) × (asked_by (codes "manual" ∷ []) ≡ Some Teaches)
-unfolding clap_on_literals
-manual_passes = (refl, refl)
-
--- nor has `migrate` the flag
-pub migrate_has_no_flag : words_fault (codes "migrate" ∷ codes "--store" ∷ codes "a.db" ∷ codes "--journal" ∷ [])
-    ≡ UnknownArgument ∷ []
-unfolding clap_on_literals
-migrate_has_no_flag = refl
-
--- `replay` has no flag
-pub flag_fails : words_fault (codes "replay" ∷ codes "--journal" ∷ []) ≡ UnknownArgument ∷ []
-unfolding clap_on_literals
-flag_fails = refl
-
--- `--store` wants its file
-pub store_wants_a_file : words_fault (codes "replay" ∷ codes "--store" ∷ []) ≡ InvalidValue ∷ []
-unfolding clap_on_literals
-store_wants_a_file = refl
-
--- without a word a command is missing
-pub nothing_fails : words_fault [] ≡ MissingSubcommand ∷ []
-unfolding clap_on_literals
-nothing_fails = refl
-
--- another word is no command
-pub other_word_fails : words_fault (codes "walk" ∷ []) ≡ UnknownArgument ∷ InvalidSubcommand ∷ []
-unfolding clap_on_literals
-other_word_fails = refl
-
--- `--help` asks for help, before a command and behind it. So does `help`, unless what stands behind it is no command
-pub help_asks : (words_fault (codes "--help" ∷ []) ≡ DisplayHelp ∷ [])
-    × (words_fault (codes "replay" ∷ codes "--help" ∷ []) ≡ DisplayHelp ∷ [])
-    × (words_fault (codes "help" ∷ []) ≡ DisplayHelp ∷ InvalidSubcommand ∷ [])
-unfolding clap_on_literals
-help_asks = (refl, refl, refl)
-
--- `--version` asks for the version
-pub version_asks : words_fault (codes "--version" ∷ []) ≡ DisplayVersion ∷ []
-unfolding clap_on_literals
-version_asks = refl

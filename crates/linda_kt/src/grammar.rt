@@ -4,20 +4,22 @@ ghost use Rattle.std.specs.Prelude.{◌≡◌, false, IfOk};
 ghost use Rattle.clap.specs.Words.{app_of, rule_of};
 ghost use Rattle.clap.specs.declared.builder.command.Command.TheViews.{out-Command as fields_of};
 ghost use Rattle.clap.specs.Simple.{shape_of};
-ghost use Rattle.linda_kt.specs.Grammar.{check_shape, command_line_app, complete_shape, completion_shape};
-ghost use Rattle.linda_kt.specs.Grammar.{explain_rule, explain_shape, journal_rule, json_rule, kept_store_rule};
-ghost use Rattle.linda_kt.specs.Grammar.{migrate_shape, number_rule, old_store_rule, one_run_shape, opening_app};
-ghost use Rattle.linda_kt.specs.Grammar.{program_app, reading_app, replay_shape, resume_rule, resume_shape, run_shape};
-ghost use Rattle.linda_kt.specs.Grammar.{running_app, scenario_rule, show_shape, store_rule, telling_app};
-ghost use Rattle.linda_kt.specs.Grammar.{unexplained_run_shape, word_rule};
+ghost use Rattle.linda_kt.specs.Grammar.{check_shape, command_line_app, complete_shape, completion_shape, draw_shape};
+ghost use Rattle.linda_kt.specs.Grammar.{explain_rule, explain_shape, html_rule, journal_rule, json_rule};
+ghost use Rattle.linda_kt.specs.Grammar.{kept_store_rule, looking_app, migrate_shape, number_rule, old_store_rule};
+ghost use Rattle.linda_kt.specs.Grammar.{one_run_shape, opening_app, program_app, reading_app, replay_shape};
+ghost use Rattle.linda_kt.specs.Grammar.{resume_rule, resume_shape, run_shape, running_app, scenario_rule, show_shape};
+ghost use Rattle.linda_kt.specs.Grammar.{store_rule, telling_app, trace_shape, unexplained_run_shape, word_rule};
+ghost use Rattle.linda_kt.specs.Grammar.{worded_trace_shape};
 
 use clap::{Arg, ArgAction};
 use kt_words::{
-    ABOUT, CHAOS_HELP, CHECK_ABOUT, COMPLETE_ABOUT, COMPLETION_ABOUT, EXPLAIN_HELP,
-    EXPLAIN_NUMBER_ABOUT, JOURNAL_HELP, JSON_HELP, JSON_OF_STORE_HELP, KEPT_STORE_HELP,
-    MANUAL_ABOUT, MIGRATE_ABOUT, NUMBER_HELP, OLD_STORE_HELP, REPLAY_ABOUT, RESUME_COMMAND_ABOUT,
+    ABOUT, CHAOS_HELP, CHECK_ABOUT, COMPLETE_ABOUT, COMPLETION_ABOUT, DRAW_ABOUT, EXPLAIN_HELP,
+    EXPLAIN_NUMBER_ABOUT, FIRST_DRAWN_HELP, FROM_HELP, HTML_HELP, JOURNAL_HELP, JSON_HELP,
+    JSON_OF_STORE_HELP, JSON_OF_TRACE_HELP, KEPT_STORE_HELP, LAST_DRAWN_HELP, MANUAL_ABOUT,
+    MIGRATE_ABOUT, NODE_HELP, NUMBER_HELP, OLD_STORE_HELP, REPLAY_ABOUT, RESUME_COMMAND_ABOUT,
     RESUME_HELP, RUN_ABOUT, SCENARIO_HELP, SEED_HELP, SHELL_HELP, SHOW_ABOUT, STORE_FILE_HELP,
-    STORE_HELP, TIMES_HELP, VERSION,
+    STORE_HELP, TIMES_HELP, TO_HELP, TRACE_ABOUT, VERSION,
 };
 use std::alloc::{AllocError, Global};
 
@@ -39,9 +41,19 @@ fn telling_commands<'a>(alloc: Global) -> Result<clap::Command<'a>, AllocError>
 {
     let show = show_command(alloc)?;
     let explain = explain_command(alloc)?;
-    reading_commands(alloc)?
+    looking_commands(alloc)?
         .subcommand(show)?
         .subcommand(explain)
+}
+
+/// The grammar with the commands that show what happens in a scenario.
+fn looking_commands<'a>(alloc: Global) -> Result<clap::Command<'a>, AllocError>
+    ensures app { IfOk result (λ c. app_of c ≡ looking_app) }
+    ensures local { IfOk result (λ c. (fields_of c).has_globals ≡ false) }
+{
+    let trace = trace_command(alloc)?;
+    let draw = draw_command(alloc)?;
+    reading_commands(alloc)?.subcommand(trace)?.subcommand(draw)
 }
 
 /// The grammar with the commands that read a scenario.
@@ -173,6 +185,40 @@ fn complete_command<'a>(alloc: Global) -> Result<clap::Command<'a>, AllocError>
     complete.arg(scenario_argument(alloc))
 }
 
+/// `trace` with what chooses its steps, and its flag.
+fn trace_command<'a>(alloc: Global) -> Result<clap::Command<'a>, AllocError>
+    ensures shape { IfOk result (λ c. shape_of c ≡ trace_shape) }
+    ensures local { IfOk result (λ c. (fields_of c).has_globals ≡ false) }
+{
+    let trace = worded_trace(alloc)?;
+    trace.arg(json_flag(alloc, JSON_OF_TRACE_HELP))
+}
+
+/// `trace` without its flag.
+fn worded_trace<'a>(alloc: Global) -> Result<clap::Command<'a>, AllocError>
+    ensures shape { IfOk result (λ c. shape_of c ≡ worded_trace_shape) }
+    ensures local { IfOk result (λ c. (fields_of c).has_globals ≡ false) }
+{
+    let trace = clap::Command::new(alloc, "trace").about(TRACE_ABOUT);
+    trace
+        .arg(scenario_argument(alloc))?
+        .arg(number_option(alloc, "from", "N", FROM_HELP))?
+        .arg(number_option(alloc, "to", "N", TO_HELP))?
+        .arg(number_option(alloc, "node", "NODE", NODE_HELP))
+}
+
+/// `draw` with its flag and what chooses its steps.
+fn draw_command<'a>(alloc: Global) -> Result<clap::Command<'a>, AllocError>
+    ensures shape { IfOk result (λ c. shape_of c ≡ draw_shape) }
+    ensures local { IfOk result (λ c. (fields_of c).has_globals ≡ false) }
+{
+    let draw = clap::Command::new(alloc, "draw").about(DRAW_ABOUT);
+    draw.arg(scenario_argument(alloc))?
+        .arg(html_flag(alloc))?
+        .arg(number_option(alloc, "from", "N", FIRST_DRAWN_HELP))?
+        .arg(number_option(alloc, "to", "N", LAST_DRAWN_HELP))
+}
+
 /// `show` with its file and its flag.
 fn show_command<'a>(alloc: Global) -> Result<clap::Command<'a>, AllocError>
     ensures shape { IfOk result (λ c. shape_of c ≡ show_shape) }
@@ -222,7 +268,8 @@ fn word<'a>(alloc: Global, id: &'a str, name: &'a str, help: &'a str) -> Arg<'a>
         .help(help)
 }
 
-/// An option whose value is a number. That it is one, and within its limits, is seen where the words are read.
+/// An option with a value of some form, as a number. That it has this form, and is within its limits, is seen where the
+/// words are read.
 fn number_option<'a>(alloc: Global, id: &'a str, name: &'a str, help: &'a str) -> Arg<'a>
     ensures rule { rule_of result ≡ number_rule id.now }
     ensures local { result.global ≡ false }
@@ -239,6 +286,17 @@ fn json_flag<'a>(alloc: Global, help: &'a str) -> Arg<'a>
         .long("json")
         .action(ArgAction::SetTrue)
         .help(help)
+}
+
+/// `--html`.
+fn html_flag<'a>(alloc: Global) -> Arg<'a>
+    ensures rule { rule_of result ≡ html_rule }
+    ensures local { result.global ≡ false }
+{
+    Arg::new(alloc, "html")
+        .long("html")
+        .action(ArgAction::SetTrue)
+        .help(HTML_HELP)
 }
 
 /// `--journal`.

@@ -2,13 +2,13 @@
 //! report to standard output. `linda_kt run` runs one by a thread for each node, several times where that is asked for,
 //! or with random faults. With `--store FILE` checkpoints are kept in a file. `linda_kt resume --store FILE` and
 //! `linda_kt run --resume --store FILE` go on from such a file after a stop, and `linda_kt migrate --store FILE`
-//! carries one of the version before over. `linda_kt check` reads a scenario alone, and `linda_kt explain NUMBER` says
-//! what a number means.
+//! carries one of the version before over. `linda_kt check` reads a scenario alone, `linda_kt trace` and
+//! `linda_kt draw` show what happens in one, and `linda_kt explain NUMBER` says what a number means.
 //!
 //! - Contract: `run_program`, clause `told`: words without a fault do their command over the store that they name, and
 //!   the exit status says how it ended; what `linda_kt` writes is what that command may write.
-//! - Stands on: kt_tuple, kt_chaos, kt_store, kt_sql_tables, kt_sql, kt_scene, kt_stage, kt_run, kt_trials, kt_words,
-//!   kt_command; of the kit: sqlite, clap, thiserror
+//! - Stands on: kt_tuple, kt_chaos, kt_store, kt_sql_tables, kt_sql, kt_scene, kt_stage, kt_tell, kt_look, kt_run,
+//!   kt_trials, kt_words, kt_command; of the kit: sqlite, clap, thiserror
 //! - Begin in: `program.rt`; the grammar of the words is in `grammar.rt`, and what they ask in `words.rt`.
 #![tactic(auto)]
 
@@ -16,6 +16,7 @@ mod copies;
 mod files;
 mod grammar;
 mod holding;
+mod looking;
 mod program;
 mod progress;
 mod trials;

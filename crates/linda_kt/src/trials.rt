@@ -1,5 +1,5 @@
 //! What the words ask of several runs, and of random fault lines.
-//! Cited by words.rt.
+//! Cited by looking.rt, words.rt.
 ghost use Rattle.std.specs.Prelude.{◌≡◌, Some};
 ghost use Rattle.clap.specs.Words.{found_of, rows_of};
 ghost use Rattle.kt_command.specs.Asking.{task_of};
@@ -70,7 +70,10 @@ fn times_of(text: &str) -> Option<u32>
     ensures { result ≡ times_of text.now }
 {
     match number_of(text) {
-        Some(number) => from_one_to(MAX_TIMES, number),
+        Some(number) => match from_one_to(u64::from(MAX_TIMES), number) {
+            Some(times) => Some(times as u32),
+            None => None,
+        },
         None => None,
     }
 }
@@ -80,24 +83,27 @@ fn count_of(text: &str) -> Option<u32>
     ensures { result ≡ count_of text.now }
 {
     match number_of(text) {
-        Some(number) => from_one_to(MAX_CHAOS, number),
+        Some(number) => match from_one_to(u64::from(MAX_CHAOS), number) {
+            Some(count) => Some(count as u32),
+            None => None,
+        },
         None => None,
     }
 }
 
 /// The number, where it is from 1 to the most that may be asked for.
-fn from_one_to(most: u32, number: u64) -> Option<u32>
+pub(crate) fn from_one_to(most: u64, number: u64) -> Option<u64>
     ensures { result ≡ in_range 1 most (Some number) }
 {
-    if 1 <= number && number <= u64::from(most) {
-        Some(number as u32)
+    if 1 <= number && number <= most {
+        Some(number)
     } else {
         None
     }
 }
 
 /// The text as a number.
-fn number_of(text: &str) -> Option<u64>
+pub(crate) fn number_of(text: &str) -> Option<u64>
     ensures { result ≡ number_of text.now }
 {
     match text.parse::<u64>() {

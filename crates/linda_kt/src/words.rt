@@ -1,13 +1,14 @@
 //! What the words of the command line ask.
-//! Cited by program.rt, trials.rt.
+//! Cited by looking.rt, program.rt, trials.rt.
 ghost use Rattle.std.specs.Prelude.{◌≡◌, ◌⊎◌, ◌∷◌, [], IfOk, Some, option_map};
 ghost use Rattle.clap.specs.Words.{FailsBy, HasKind, first_of, found_of, kind_of, rows_of};
 ghost use Rattle.kt_command.specs.Asking.{asked, task_of};
 ghost use Rattle.kt_command.specs.Command.{texts};
-ghost use Rattle.linda_kt.specs.Words.{asked_by, asked_of, done_of, has_flag, kinds_of, made_of, reads};
+ghost use Rattle.linda_kt.specs.Words.{asked_by, asked_of, done_of, has_flag, kinds_of, looks, made_of, reads};
 ghost use Rattle.linda_kt.specs.Words.{required_text, run_or_made_of, scenario_of, telling_of, told_as, words_fault};
 
 use crate::grammar::command_line;
+use crate::looking::{draw_of, trace_of};
 use crate::trials::{chaos_of, repeated_of};
 use clap::error::ErrorKind;
 use clap::{ArgMatches, Error};
@@ -36,6 +37,14 @@ pub enum Misfit {
     NoChaos,
     /// Several runs are asked for, and something that only one run can have.
     OneRun,
+    /// The first step that is chosen is no number, or is 0.
+    WrongFrom,
+    /// The last one is.
+    WrongTo,
+    /// The first one stands behind the last one.
+    NoSteps,
+    /// No node has the name.
+    WrongNode,
 }
 
 /// What the words ask. The words are those after the program's name. Words that ask nothing are an error of `clap`,
@@ -73,9 +82,28 @@ fn request_of<'a>(name: &str, options: &ArgMatches<'a>) -> Result<Request<'a>, M
         }
     } else if name == "manual" {
         Ok(Request::Manual)
+    } else if name == "trace" {
+        look_of(trace_of(options), options)
+    } else if name == "draw" {
+        look_of(draw_of(options), options)
     } else {
         read_request_of(name, options)
     }
+}
+
+/// What a command asks that shows what happens in a scenario. No explanation can be asked for.
+fn look_of<'a>(
+    task: Result<Task<'a>, Misfit>,
+    options: &ArgMatches<'a>,
+) -> Result<Request<'a>, Misfit>
+    ensures { told_as asked result ≡ looks (rows_of (found_of options.now)) (told_as task_of task.entry) }
+{
+    let task = task?;
+    Ok(Request::Read {
+        task,
+        file: scenario_of(options),
+        telling: Telling::Nothing,
+    })
 }
 
 /// What a command asks that reads a scenario.
@@ -198,9 +226,13 @@ fn refuse(alloc: Global, misfit: Misfit) -> Error
             refuse_as(alloc, ErrorKind::MissingRequiredArgument, words)
         }
         Misfit::NoShell => refuse_as(alloc, ErrorKind::InvalidValue, words),
-        Misfit::WrongTimes | Misfit::WrongChaos | Misfit::WrongSeed => {
-            refuse_as(alloc, ErrorKind::ValueValidation, words)
-        }
+        Misfit::WrongTimes
+        | Misfit::WrongChaos
+        | Misfit::WrongSeed
+        | Misfit::WrongFrom
+        | Misfit::WrongTo
+        | Misfit::NoSteps
+        | Misfit::WrongNode => refuse_as(alloc, ErrorKind::ValueValidation, words),
         Misfit::OneRun => refuse_as(alloc, ErrorKind::ArgumentConflict, words),
     }
 }
@@ -230,6 +262,13 @@ fn words_for(misfit: Misfit) -> &'static str {
         Misfit::NoChaos => "the argument '--seed <K>' wants '--chaos <N>'",
         Misfit::OneRun => {
             "the argument '--times <N>' cannot be used with '--store', '--journal', '--resume' or '--chaos'"
+        }
+        Misfit::WrongFrom => "the argument '--from <N>' wants the number of a step, counted from 1",
+        Misfit::WrongTo => "the argument '--to <N>' wants the number of a step, counted from 1",
+        Misfit::NoSteps =>
+            "the argument '--from <N>' wants a step that is not behind that of '--to <N>'",
+        Misfit::WrongNode => {
+            "the argument '--node <NODE>' wants a worker, from w1 to w16, or a shard, from s1 to s8"
         }
     }
 }

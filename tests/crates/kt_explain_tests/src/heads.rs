@@ -62,7 +62,7 @@ pub(crate) static IN_TITLE: &[Row] = &[
         "SQLite format 3\0\x10\0\x01\x01\n",
         r#"  SQLite format 3\x00\x10\x00\x01\x01
   ^
-  this is a database, no scenario: to go on from it, type `linda_kt resume --store DATABASE SCENARIO`
+  a database: give the scenario instead, or to go on from it type `linda_kt resume --store DATABASE SCENARIO`
 "#,
     ),
     (
@@ -78,7 +78,7 @@ pub(crate) static IN_TITLE: &[Row] = &[
         "SQLite format 3\0\x10\0\x01\x01",
         r#"  SQLite format 3\x00\x10\x00\x01\x01
   ^
-  this is a database, no scenario: to go on from it, type `linda_kt resume --store DATABASE SCENARIO`
+  a database: give the scenario instead, or to go on from it type `linda_kt resume --store DATABASE SCENARIO`
 "#,
     ),
     (
@@ -118,7 +118,7 @@ pub(crate) static IN_TITLE_OF_RUN: &[Row] = &[
         "SQLite format 3\0\n",
         r#"  SQLite format 3\x00
   ^
-  this is a database, no scenario: to go on from it, type `linda_kt run --resume --store DATABASE SCENARIO`
+  a database: give the scenario instead, or to go on from it type `linda_kt run --resume --store DATABASE SCENARIO`
 "#,
     ),
 ];

@@ -186,7 +186,7 @@ pub(crate) static IN_TUPLES: &[Row] = &[
         "out (\"a, 1)\n",
         r#"  out ("a, 1)
        ^
-  this quote opens a str, and none closes it: write `"` where the str ends (`\"` does not close it)
+  this quote opens a str, and none closes it: write `"` where the str ends (`\"` is a quote within it)
 "#,
     ),
     (
@@ -276,7 +276,7 @@ pub(crate) static IN_TUPLES: &[Row] = &[
         "out (\"a\\\")\n",
         r#"  out ("a\")
        ^
-  this quote opens a str, and none closes it: write `"` where the str ends (`\"` does not close it)
+  this quote opens a str, and none closes it: write `"` where the str ends (`\"` is a quote within it)
 "#,
     ),
     (

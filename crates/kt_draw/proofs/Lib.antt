@@ -1,0 +1,4 @@
+pub mod Plain
+pub mod Apart
+pub mod Behind
+pub mod Drawn

@@ -1,0 +1,5 @@
+pub mod Escaping
+pub mod Elements
+pub mod Places
+pub mod Rows
+pub mod auxiliary

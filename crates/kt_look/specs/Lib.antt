@@ -1,0 +1,3 @@
+pub mod Told
+pub mod Drawing
+pub mod auxiliary

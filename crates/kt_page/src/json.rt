@@ -1,0 +1,83 @@
+//! Changes of cells as JSON.
+//! Cited by page.rt, watch.rt.
+
+ghost use Rattle.std.specs.Prelude.{◌≡◌, ◌++◌, OnOk};
+ghost use Rattle.kt_page.specs.auxiliary.Json.{character_json, string_json};
+
+use crate::splice::{Splice, splice_of};
+use kt_story::ARROW;
+use kt_tuple::writing::push_number;
+use std::alloc::AllocError;
+
+/// Puts what changes of these cells behind the other changes. The first of them has this number.
+pub(crate) fn push_changes(
+    out: &mut Vec<u8>,
+    number: usize,
+    old: &[Vec<Vec<u8>>],
+    new: &[Vec<Vec<u8>>],
+) -> Result<(), AllocError> {
+    for (place, lines) in new.iter().enumerate() {
+        let cell = number.saturating_add(place);
+        match old.get(place) {
+            Some(before) => push_change(out, cell, before, lines)?,
+            None => push_change(out, cell, &[], lines)?,
+        }
+    }
+    Ok(())
+}
+
+/// Puts what changes of the cell of this number behind the other changes, where something does.
+fn push_change(
+    out: &mut Vec<u8>,
+    cell: usize,
+    old: &[Vec<u8>],
+    new: &[Vec<u8>],
+) -> Result<(), AllocError> {
+    let Some(Splice { at, gone, come }) = splice_of(old, new) else {
+        return Ok(());
+    };
+    if !out.is_empty() {
+        out.push(b',')?;
+    }
+    out.push(b'[')?;
+    push_number(out, cell as u64)?;
+    out.push(b',')?;
+    push_number(out, at as u64)?;
+    out.push(b',')?;
+    push_number(out, gone as u64)?;
+    for line in come {
+        out.push(b',')?;
+        push_string(out, line)?;
+    }
+    out.push(b']')?;
+    Ok(())
+}
+
+/// Puts a JSON string behind the text. It may stand within a `script` of HTML: there is no `<` in it.
+fn push_string(out: &mut Vec<u8>, text: &[u8]) -> Result<(), AllocError>
+    ensures { OnOk result (out.new.items ≡ out.old.items ++ string_json text.now) }
+{
+    out.push(b'"')?;
+    for character in text {
+        push_character(out, *character)?;
+    }
+    out.push(b'"')?;
+    Ok(())
+}
+
+fn push_character(out: &mut Vec<u8>, character: u8) -> Result<(), AllocError>
+    ensures { OnOk result (out.new.items ≡ out.old.items ++ character_json character) }
+{
+    if character == b'"' {
+        out.extend_from_slice(b"\\\"")
+    } else if character == b'\\' {
+        out.extend_from_slice(b"\\\\")
+    } else if character == b'<' {
+        out.extend_from_slice(b"\\u003c")
+    } else if character == ARROW {
+        out.extend_from_slice(b"\\u2192")
+    } else {
+        out.push(character)?;
+        Ok(())
+    }
+}

@@ -1,0 +1,4 @@
+pub mod Deciding
+pub mod Splitting
+pub mod Cutting
+pub mod Telling

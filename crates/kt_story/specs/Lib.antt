@@ -1,0 +1,4 @@
+pub mod Story
+pub mod Marks
+pub mod Said
+pub mod auxiliary

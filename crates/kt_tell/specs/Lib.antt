@@ -1,0 +1,5 @@
+pub mod StepLines
+pub mod Chosen
+pub mod Words
+pub mod Shape
+pub mod auxiliary

@@ -1,0 +1,4 @@
+pub mod Going
+pub mod Sending
+pub mod Refusals
+pub mod Stepped

@@ -1,0 +1,3 @@
+-- What the code alone keeps, and no public clause cites.
+pub mod Entries
+pub mod Glimpses
