@@ -1,5 +1,5 @@
 -- Rows that are drawn one below the other.
--- Cited by `picture::push_all`, `picture::rows_from`, `row::push_rows`.
+-- Cited by `picture::rows_from`, `picture::text_of`, `row::push_rows`.
 use Rattle.std.proofs.Common.{◌≡◌, ℕ, ◌+◌, ◌<◌, ◌≤◌, Bool, true, false, List, [], ◌∷◌, ◌++◌, length, get_or, take, drop, refl, sym, ap, ◌∙◌, subst, arith}
 use Rattle.std.proofs.Common.{append_assoc, append-nil}
 use Rattle.std.specs.Prelude.{min, nat_le}
@@ -8,44 +8,46 @@ use Rattle.std.proofs.lemmas.List.{drop_all, take_all, take_more}
 use Rattle.kt_history.specs.declared.note.Note.{Note}
 use Rattle.kt_trace.specs.declared.traced.TracedStep.{TracedStep}
 use Rattle.kt_draw.specs.declared.sheet.Sheet.{Sheet}
-use Rattle.kt_draw.specs.Rows.{AreDrawn, HasRowsOn, more as drawn-more, none as drawn-none, row_begin}
+use Rattle.kt_draw.specs.Rows.{AreDrawn, HasRowsOn, IsSaid, more as drawn-more, none as drawn-none, row_begin}
 use Rattle.kt_draw.specs.auxiliary.Behind.{IsDrawnBehind, IsRowBehind}
 
 -- no row is drawn
-pub drawn_none : (begin : TracedStep → List ℕ) (text : List ℕ) → IsDrawnBehind begin [] text text
-drawn_none begin text = ([], drawn-none, sym (append-nil text))
+pub drawn_none : (begin : TracedStep → List ℕ) (says : TracedStep → List ℕ → Type 0) (text : List ℕ) → IsDrawnBehind begin says [] text text
+drawn_none begin says text = ([], drawn-none, sym (append-nil text))
 
 -- one row more is
-pub drawn_more : (begin : TracedStep → List ℕ) (old so_far new : List ℕ) (rows : List TracedStep) (i : ℕ) (row : TracedStep)
-    → i < length rows → row ≡ get_or rows i row → IsDrawnBehind begin (take i rows) old so_far → IsRowBehind (begin row) so_far new
-    → IsDrawnBehind begin (take (i + 1) rows) old new
-drawn_more begin old so_far new rows i row within at before more =
+pub drawn_more : (begin : TracedStep → List ℕ) (says : TracedStep → List ℕ → Type 0) (old so_far new : List ℕ) (rows : List TracedStep) (i : ℕ)
+    (row : TracedStep) → i < length rows → row ≡ get_or rows i row → IsDrawnBehind begin says (take i rows) old so_far
+    → IsRowBehind (begin row) (says row) so_far new → IsDrawnBehind begin says (take (i + 1) rows) old new
+drawn_more begin says old so_far new rows i row within at before more =
     let text = before.0 in
     let words = more.0 in
     let front : take i rows ++ row ∷ [] ≡ take (i + 1) rows =
     ap (λ (x : TracedStep). take i rows ++ x ∷ []) at ∙ sym (take_more rows i row within) in
-    let P : List TracedStep → Type 0 = λ rs. AreDrawn begin rs (text ++ (begin row ++ words)) in (
+    let P : List TracedStep → Type 0 = λ rs. AreDrawn begin says rs (text ++ (begin row ++ words)) in (
       text ++ (begin row ++ words),
-      subst P front (drawn-more (take i rows) row text words before.1),
-      more.1 ∙ ap (λ (t : List ℕ). t ++ (begin row ++ words)) before.2 ∙ append_assoc old text (begin row ++ words),
+      subst P front (drawn-more (take i rows) row text words before.1 more.1),
+      more.2 ∙ ap (λ (t : List ℕ). t ++ (begin row ++ words)) before.2 ∙ append_assoc old text (begin row ++ words),
     )
 
 -- all rows are
-pub drawn_all : (begin : TracedStep → List ℕ) (old new : List ℕ) (rows : List TracedStep) (n : ℕ) → length rows ≤ n
-    → IsDrawnBehind begin (take n rows) old new → IsDrawnBehind begin rows old new
-drawn_all begin old new rows n end drawn =
-    let P : List TracedStep → Type 0 = λ rs. IsDrawnBehind begin rs old new in
+pub drawn_all : (begin : TracedStep → List ℕ) (says : TracedStep → List ℕ → Type 0) (old new : List ℕ) (rows : List TracedStep) (n : ℕ)
+    → length rows ≤ n → IsDrawnBehind begin says (take n rows) old new → IsDrawnBehind begin says rows old new
+drawn_all begin says old new rows n end drawn =
+    let P : List TracedStep → Type 0 = λ rs. IsDrawnBehind begin says rs old new in
     subst P (take_all n rows end) drawn
 
--- a text with rows that are drawn behind a front, and more behind them
-pub has_rows : (sheet : Sheet) (h : List Note) (rows : List TracedStep) (front drawn behind whole : List ℕ)
-    → IsDrawnBehind (row_begin sheet h) rows front drawn → whole ≡ drawn ++ behind → HasRowsOn sheet h rows whole
-has_rows sheet h rows front drawn behind whole inside is = record {
+-- a text with rows that are drawn behind its head and a front, and more behind them
+pub has_rows : (head : List ℕ) (sheet : Sheet) (h : List Note) (rows : List TracedStep) (front start drawn behind whole : List ℕ)
+    → start ≡ head ++ front → IsDrawnBehind (row_begin sheet h) (IsSaid h) rows start drawn → whole ≡ drawn ++ behind
+    → HasRowsOn head sheet h rows whole
+has_rows head sheet h rows front start drawn behind whole begun inside is = record {
   before = front;
   drawn = inside.0;
   behind = behind;
   are = inside.1;
-  is = is ∙ ap (λ (t : List ℕ). t ++ behind) inside.2 ∙ append_assoc front inside.0 behind;
+  is = is ∙ ap (λ (t : List ℕ). t ++ behind) (inside.2 ∙ ap (λ (t : List ℕ). t ++ inside.0) begun)
+      ∙ append_assoc (head ++ front) inside.0 behind ∙ append_assoc head front (inside.0 ++ behind);
 }
 
 -- what is left of the rows behind those before the first, of which there may be fewer

@@ -15,10 +15,20 @@ place_attributes at = number_attribute (codes "x") at.x ++ number_attribute (cod
 abbrev pub element : List ℕ → List ℕ → List ℕ
 element name classes = 60 ∷ name ++ codes " class=\"" ++ classes ++ 34 ∷ []
 
--- a text at a point
+-- a text at a point, of this content
+abbrev pub text_element : List ℕ → Point → List ℕ → List ℕ
+text_element classes at content =
+    element (codes "text") classes ++ place_attributes at ++ 62 ∷ content ++ codes "</text>\n"
+
 abbrev pub label_text : List ℕ → Point → List ℕ → List ℕ
-label_text classes at text =
-    element (codes "text") classes ++ place_attributes at ++ 62 ∷ escaped text ++ codes "</text>\n"
+label_text classes at text = text_element classes at (escaped text)
+
+-- a text of which the begin is struck through
+abbrev pub struck_content : List ℕ → List ℕ → List ℕ
+struck_content struck text = codes "<tspan class=\"s\">" ++ escaped struck ++ codes "</tspan>" ++ escaped text
+
+abbrev pub struck_text : Point → List ℕ → List ℕ → List ℕ
+struck_text at struck text = text_element (codes "t") at (struck_content struck text)
 
 -- a symbol with its middle at a point
 abbrev pub use_text : List ℕ → Point → List ℕ

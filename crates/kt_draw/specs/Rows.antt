@@ -1,18 +1,21 @@
 -- How the rows of a picture are drawn: one below the other, each with its number and its mark.
--- Cited by Drawn, picture.rt, row.rt, sheet.rt, specs/auxiliary/Behind, `picture::picture_of`, `row::push_row`,
---   `row::push_rows`; other crates.
-use Rattle.std.specs.Prelude.{◌≡◌, ℕ, ◌+◌, ◌-◌, List, [], ◌∷◌, ◌++◌, codes, decimal, drop, length, max, min}
+-- Cited by Drawn, Said, picture.rt, row.rt, sheet.rt, specs/auxiliary/Behind, `picture::picture_of`,
+--   `picture::text_of`, `row::push_row`, `row::push_rows`; other crates.
+use Rattle.std.specs.Prelude.{◌≡◌, ℕ, ◌+◌, ◌-◌, Bool, true, false, List, [], ◌∷◌, ◌++◌, codes, decimal, drop, length}
+use Rattle.std.specs.Prelude.{max, min, if◌then◌else◌}
 use Rattle.kt_tuple.specs.declared.node.NodeId.{NodeId}
 use Rattle.kt_history.specs.declared.note.Note.{Note}
 use Rattle.kt_trace.specs.declared.traced.TracedStep.{TracedStep}
 use Rattle.kt_story.specs.declared.mark.Mark.{Mark}
 use Rattle.kt_story.specs.declared.mark.Mark.TheVariants as marks
 use Rattle.kt_story.specs.Marks.{mark_of}
-use Rattle.kt_story.specs.Story.{act_survives}
+use Rattle.kt_story.specs.Story.{StoryModel, act_is_lost, act_survives}
 use Rattle.kt_draw.specs.declared.plane.TheConstants.{NUMBERS}
 use Rattle.kt_draw.specs.declared.element.Point.{Point}
+use Rattle.kt_draw.specs.declared.picture.Form.{Form}
+use Rattle.kt_draw.specs.declared.picture.Form.TheVariants as forms
 use Rattle.kt_draw.specs.declared.sheet.Sheet.{Sheet}
-use Rattle.kt_draw.specs.Elements.{label_text, use_text}
+use Rattle.kt_draw.specs.Elements.{label_text, struck_text, use_text}
 use Rattle.kt_draw.specs.Places.{column, row_y}
 
 -- the name of the mark's symbol: each mark has one of its own
@@ -57,11 +60,58 @@ row_begin sheet h row =
     number_text row.number ((row_point sheet row).y + 4)
     ++ use_text (symbol_of (mark_of row (act_survives h row))) (row_point sheet row)
 
--- the rows are drawn in order; behind the begin of each stands some text, of which nothing is said
-pub data AreDrawn (begin : TracedStep → List ℕ) : List TracedStep → List ℕ → Type 0 where
-  none : AreDrawn begin [] []
-  more : (rows : List TracedStep) (row : TracedStep) (text words : List ℕ) → AreDrawn begin rows text
-      → AreDrawn begin (rows ++ row ∷ []) (text ++ (begin row ++ words))
+-- the mark says what matters: then it stands beside the words too, and they stand out
+abbrev pub is_telling : Mark → Bool
+is_telling marks.Survives = true
+is_telling marks.Lost = true
+is_telling marks.Asks = false
+is_telling marks.Waits = false
+is_telling marks.Hears = false
+is_telling marks.Holds = false
+is_telling marks.Drops = false
+is_telling marks.Reads = false
+is_telling marks.Tentative = true
+is_telling marks.Permanent = true
+is_telling marks.GivenUp = true
+is_telling marks.Yes = true
+is_telling marks.No = true
+is_telling marks.Fails = true
+is_telling marks.Restarts = true
+is_telling marks.Joins = true
+is_telling marks.GoesBack = true
+
+abbrev pub again_text : Mark → Point → List ℕ
+again_text mark at = if is_telling mark then use_text (symbol_of mark) at else []
+
+-- the classes of the words: of an act that is lost they are struck through
+abbrev pub classes_of : (lost telling : Bool) → List ℕ
+classes_of true telling = codes "t s"
+classes_of false true = codes "t"
+classes_of false false = codes "q"
+
+-- words of these classes; where a reason stands behind them, they are struck through and the reason is not
+abbrev pub words_text : List ℕ → Point → (said reason : List ℕ) → List ℕ
+words_text classes at said [] = label_text classes at said
+words_text classes at said (c ∷ reason) = struck_text at said (c ∷ reason)
+
+-- what stands behind the begin of a row: its mark once more, where that says what matters, and one text, of which
+-- something is struck through just where the row's act is lost. Where the two stand, and which words these are, is not
+-- stated
+pub record IsSaid (h : List Note) (row : TracedStep) (text : List ℕ) : Type 0 where
+  pub beside : Point
+  pub at : Point
+  pub said : List ℕ
+  pub reason : List ℕ
+  pub none : act_is_lost h row ≡ false → reason ≡ []
+  pub is : text ≡ again_text (mark_of row (act_survives h row)) beside
+      ++ words_text (classes_of (act_is_lost h row) (is_telling (mark_of row (act_survives h row)))) at said reason
+
+-- the rows are drawn in order, each with what is said of it behind its begin
+pub data AreDrawn (begin : TracedStep → List ℕ) (says : TracedStep → List ℕ → Type 0)
+    : List TracedStep → List ℕ → Type 0 where
+  none : AreDrawn begin says [] []
+  more : (rows : List TracedStep) (row : TracedStep) (text words : List ℕ) → AreDrawn begin says rows text
+      → says row words → AreDrawn begin says (rows ++ row ∷ []) (text ++ (begin row ++ words))
 
 -- the rows from the step of this number on, where the first step has the number 1
 abbrev pub rows_from : ℕ → List TracedStep → List TracedStep
@@ -71,18 +121,26 @@ rows_from first rows = drop (first - 1) rows
 abbrev pub first_of : ℕ → List TracedStep → ℕ
 first_of from all = min (max from 1) (length all + 1)
 
--- the text has these rows on the sheet, drawn by this history, in one piece
-pub record HasRowsOn (sheet : Sheet) (h : List Note) (rows : List TracedStep) (text : List ℕ) : Type 0 where
+-- how a picture begins: a file of its own names its language
+abbrev pub picture_head : Form → List ℕ
+picture_head forms.Alone = codes "<svg xmlns=\"http://www.w3.org/2000/svg\""
+picture_head forms.InPage = codes "<svg"
+
+-- the text begins so, and has these rows on the sheet, drawn by this history, in one piece
+pub record HasRowsOn (head : List ℕ) (sheet : Sheet) (h : List Note) (rows : List TracedStep) (text : List ℕ)
+    : Type 0 where
   pub before : List ℕ
   pub drawn : List ℕ
   pub behind : List ℕ
-  pub are : AreDrawn (row_begin sheet h) rows drawn
-  pub is : text ≡ before ++ (drawn ++ behind)
+  pub are : AreDrawn (row_begin sheet h) (IsSaid h) rows drawn
+  pub is : text ≡ head ++ (before ++ (drawn ++ behind))
 
--- of these rows the text has those from the step of this number on; the uppermost stands at the top of its sheet, which
--- has room for as many as are drawn
-pub record HasRows (h : List Note) (from : ℕ) (all : List TracedStep) (text : List ℕ) : Type 0 where
+-- the text begins so. Of the story's rows it has those from the step of this number on; the uppermost stands at the top
+-- of its sheet, which has a column for each node of the scene, and room for as many rows as are drawn
+pub record HasRows (head : List ℕ) (story : StoryModel) (from : ℕ) (text : List ℕ) : Type 0 where
   pub sheet : Sheet
-  pub top : sheet.first ≡ first_of from all
-  pub room : sheet.plane.rows ≡ min (length (rows_from from all)) 4294967295
-  pub rows : HasRowsOn sheet h (rows_from from all) text
+  pub workers : sheet.plane.workers ≡ length story.state.scene.scripts
+  pub shards : sheet.plane.shards ≡ story.state.scene.shards
+  pub top : sheet.first ≡ first_of from story.rows
+  pub room : sheet.plane.rows ≡ min (length (rows_from from story.rows)) 4294967295
+  pub rows : HasRowsOn head sheet story.state.history (rows_from from story.rows) text

@@ -3,7 +3,7 @@
 
 ghost use Rattle.std.specs.Prelude.{◌≡◌, ◌++◌, OnOk};
 ghost use Rattle.kt_draw.specs.Elements.{box_text, element, label_text, line_text, number_attribute};
-ghost use Rattle.kt_draw.specs.Elements.{place_attributes, point_text, use_text};
+ghost use Rattle.kt_draw.specs.Elements.{place_attributes, point_text, struck_content, struck_text, use_text};
 
 use crate::escape::push_escaped;
 use kt_tuple::writing::push_number;
@@ -73,6 +73,32 @@ pub fn push_label(
     out.push(b'>')?;
     push_escaped(out, text)?;
     out.extend_from_slice(b"</text>\n")
+}
+
+/// Puts a text that begins at the point, of which the begin is struck through. Both parts are escaped.
+pub(crate) fn push_struck(
+    out: &mut Vec<u8>,
+    at: Point,
+    struck: &[u8],
+    text: &[u8],
+) -> Result<(), AllocError>
+    ensures { OnOk result (out.new.items ≡ out.old.items ++ struck_text at struck.now text.now) }
+{
+    push_element(out, b"text", b"t")?;
+    push_place(out, at)?;
+    out.push(b'>')?;
+    push_struck_content(out, struck, text)?;
+    out.extend_from_slice(b"</text>\n")
+}
+
+/// The content of such a text.
+fn push_struck_content(out: &mut Vec<u8>, struck: &[u8], text: &[u8]) -> Result<(), AllocError>
+    ensures { OnOk result (out.new.items ≡ out.old.items ++ struck_content struck.now text.now) }
+{
+    out.extend_from_slice(b"<tspan class=\"s\">")?;
+    push_escaped(out, struck)?;
+    out.extend_from_slice(b"</tspan>")?;
+    push_escaped(out, text)
 }
 
 /// Puts the symbol of this name, with its middle at the point.

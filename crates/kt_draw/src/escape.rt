@@ -1,5 +1,5 @@
 //! Text as XML and HTML have it.
-//! Cited by element.rt, row.rt; other crates.
+//! Cited by element.rt; other crates.
 
 ghost use Rattle.std.specs.Prelude.{◌≡◌, ◌++◌, OnOk};
 ghost use Rattle.kt_draw.specs.Escaping.{entity, escaped};

@@ -2,7 +2,7 @@
 //! Cited by other crates.
 
 ghost use Rattle.std.specs.Prelude.{◌≡◌, IfOk, OnOk, length, min};
-ghost use Rattle.kt_draw.specs.Rows.{HasRows, HasRowsOn, rows_from};
+ghost use Rattle.kt_draw.specs.Rows.{HasRows, HasRowsOn, picture_head, rows_from};
 
 use crate::band::{push_bands, push_rules};
 use crate::element::{Point, push_label, push_use};
@@ -54,7 +54,7 @@ pub fn picture_of(
     form: Form,
 ) -> Result<Vec<u8>, AllocError>
     ensures drawn { IfOk result (λ text.
-        HasRows story.now.state.history first story.now.rows text.items) }
+        HasRows (picture_head form) story.now first text.items) }
 {
     let rows = rows_from(story, first);
     let first = first.max(1).min(story.rows().len() as u64 + 1);
@@ -64,9 +64,8 @@ pub fn picture_of(
         arrows: arrows(alloc, story)?,
         crossed: all_crossed(alloc, story, sheet)?,
     };
-    let mut out = Vec::new(alloc);
-    push_all(alloc, &mut out, story, rows, &drawing, form)?;
-    Ok(out)
+    let text = text_of(alloc, story, rows, &drawing, form)?;
+    Ok(text)
 }
 
 /// The rows from the step of this number on.
@@ -86,6 +85,8 @@ fn sheet_of(
     first: u64,
 ) -> Result<Sheet, AllocError>
     ensures first { IfOk result (λ sheet. sheet.first ≡ first) }
+    ensures workers { IfOk result (λ sheet. sheet.plane.workers ≡ length story.now.state.scene.scripts) }
+    ensures shards { IfOk result (λ sheet. sheet.plane.shards ≡ story.now.state.scene.shards) }
     ensures rows { IfOk result (λ sheet. sheet.plane.rows ≡ min (length rows.now) 4294967295) }
 {
     let mut longest = if rows.is_empty() {
@@ -167,55 +168,69 @@ fn rows_before(story: &Story, sheet: Sheet) -> &[TracedStep] {
 }
 
 /// The picture in the order of drawing: what comes later stands in front.
-fn push_all(
+fn text_of(
     alloc: Global,
-    out: &mut Vec<u8>,
     story: &Story,
     rows: &[TracedStep],
     drawing: &Drawing,
     form: Form,
-) -> Result<(), AllocError>
-    ensures { OnOk result (HasRowsOn drawing.now.sheet story.now.state.history rows.now out.new.items) }
+) -> Result<Vec<u8>, AllocError>
+    ensures { IfOk result (λ text.
+        HasRowsOn (picture_head form) drawing.now.sheet story.now.state.history rows.now text.items) }
 {
     let (legend, last) = legend_of(alloc, story, rows, drawing)?;
     let height = last.saturating_add(LINE);
-    push_front(alloc, out, story, rows, drawing, height, form)?;
-    push_rows(alloc, out, drawing.sheet, story, rows)?;
+    let front = before_rows(alloc, story, rows, drawing, height, form)?;
     let behind = behind_rows(alloc, story, drawing, &legend, form)?;
+    let mut out = Vec::new(alloc);
+    out.extend_from_slice(picture_head(form))?;
+    out.extend_from_slice(&front)?;
+    push_rows(alloc, &mut out, drawing.sheet, story, rows)?;
     out.extend_from_slice(&behind)?;
-    Ok(())
+    Ok(out)
 }
 
-/// What stands before the rows: names, style, title, and the lines of nodes and messages.
-fn push_front(
+/// How the picture begins.
+fn picture_head(form: Form) -> &'static [u8]
+    ensures { result.now ≡ picture_head form }
+{
+    match form {
+        Form::Alone => b"<svg xmlns=\"http://www.w3.org/2000/svg\"",
+        Form::InPage => b"<svg",
+    }
+}
+
+/// What stands between that and the rows: names, style, title, and the lines of nodes and messages.
+fn before_rows(
     alloc: Global,
-    out: &mut Vec<u8>,
     story: &Story,
     rows: &[TracedStep],
     drawing: &Drawing,
     height: u64,
     form: Form,
-) -> Result<(), AllocError> {
+) -> Result<Vec<u8>, AllocError> {
     let sheet = drawing.sheet;
     let title = title_of(alloc, story, sheet.first)?;
     let tally = tally_of(alloc, story)?;
-    push_root(out, sheet, height, form)?;
-    push_names(out, &title, &tally)?;
-    push_ground(out, sheet, height)?;
-    push_label(out, b"t b", Point { x: MARGIN, y: 20 }, &title)?;
-    push_label(out, b"t", Point { x: MARGIN, y: 40 }, &tally)?;
-    push_rules(out, sheet)?;
+    let mut out = Vec::new(alloc);
+    push_root(&mut out, sheet, height, form)?;
+    push_names(&mut out, &title, &tally)?;
+    push_ground(&mut out, sheet, height)?;
+    push_label(&mut out, b"t b", Point { x: MARGIN, y: 20 }, &title)?;
+    push_label(&mut out, b"t", Point { x: MARGIN, y: 40 }, &tally)?;
+    push_rules(&mut out, sheet)?;
     for (node, stretches) in &drawing.crossed {
-        push_boxes(out, sheet, *node, stretches)?;
+        push_boxes(&mut out, sheet, *node, stretches)?;
     }
     for (node, _) in &drawing.crossed {
         let before = mode_before(rows_before(story, sheet), *node);
-        push_life(out, sheet, rows, *node, before)?;
+        push_life(&mut out, sheet, rows, *node, before)?;
     }
     for arrow in &drawing.arrows {
-        push_arrow(out, sheet, arrow)?;
+        push_arrow(&mut out, sheet, arrow)?;
     }
-    push_bands(out, sheet)
+    push_bands(&mut out, sheet)?;
+    Ok(out)
 }
 
 /// What stands behind the rows: how they end, what a script moves, and the legend.
@@ -239,21 +254,19 @@ fn behind_rows(
     Ok(out)
 }
 
-/// The begin of the root element.
+/// The rest of the root element's begin.
 fn push_root(out: &mut Vec<u8>, sheet: Sheet, height: u64, form: Form) -> Result<(), AllocError> {
     let width = sheet.width();
     match form {
         Form::Alone => {
-            out.extend_from_slice(
-                b"<svg xmlns=\"http://www.w3.org/2000/svg\" id=\"picture\" width=\"",
-            )?;
+            out.extend_from_slice(b" id=\"picture\" width=\"")?;
             push_number(out, width)?;
             out.extend_from_slice(b"\" height=\"")?;
             push_number(out, height)?;
             out.push(b'"')?;
         }
         Form::InPage => {
-            out.extend_from_slice(b"<svg id=\"picture\" style=\"width:")?;
+            out.extend_from_slice(b" id=\"picture\" style=\"width:")?;
             push_number(out, width / 16)?;
             out.extend_from_slice(b"em\"")?;
         }

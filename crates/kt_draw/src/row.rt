@@ -1,12 +1,13 @@
 //! The rows of a picture: the number of the step, its mark in the node's column, and what is said of it.
 //! Cited by legend.rt, picture.rt.
 
-ghost use Rattle.std.specs.Prelude.{◌≡◌, ◌++◌, OnOk};
-ghost use Rattle.kt_draw.specs.Rows.{number_text, row_begin, symbol_of};
+ghost use Rattle.std.specs.Prelude.{◌≡◌, ◌++◌, IfOk, OnOk};
+ghost use Rattle.kt_story.specs.Story.{act_is_lost};
+ghost use Rattle.kt_draw.specs.Rows.{IsSaid, again_text, classes_of, is_telling, number_text, row_begin, symbol_of};
+ghost use Rattle.kt_draw.specs.Rows.{words_text};
 ghost use Rattle.kt_draw.specs.auxiliary.Behind.{IsDrawnBehind, IsRowBehind};
 
-use crate::element::{Point, push_label, push_use};
-use crate::escape::push_escaped;
+use crate::element::{Point, push_label, push_struck, push_use};
 use crate::plane::NUMBERS;
 use crate::sheet::Sheet;
 use kt_story::{Mark, Story, Words, words_of};
@@ -39,8 +40,10 @@ pub(crate) fn symbol_of(mark: Mark) -> &'static [u8]
     }
 }
 
-/// Whether the mark says what matters: then it stands beside the text too, and the text stands out.
-fn is_telling(mark: Mark) -> bool {
+/// Whether the mark says what matters: then it stands beside the words too, and they stand out.
+fn is_telling(mark: Mark) -> bool
+    ensures { result ≡ is_telling mark }
+{
     !matches!(
         mark,
         Mark::Asks | Mark::Waits | Mark::Hears | Mark::Holds | Mark::Drops | Mark::Reads
@@ -56,7 +59,8 @@ pub(crate) fn push_rows(
     rows: &[TracedStep],
 ) -> Result<(), AllocError>
     ensures { OnOk result
-        (IsDrawnBehind (row_begin sheet story.now.state.history) rows.now out.old.items out.new.items) }
+        (IsDrawnBehind (row_begin sheet story.now.state.history) (IsSaid story.now.state.history) rows.now
+        out.old.items out.new.items) }
 {
     for row in rows {
         push_row(alloc, out, sheet, story, row)?;
@@ -72,7 +76,8 @@ fn push_row(
     story: &Story,
     row: &TracedStep,
 ) -> Result<(), AllocError>
-    ensures { OnOk result (IsRowBehind (row_begin sheet story.now.state.history row.now) out.old.items out.new.items) }
+    ensures { OnOk result (IsRowBehind (row_begin sheet story.now.state.history row.now)
+        (IsSaid story.now.state.history row.now) out.old.items out.new.items) }
 {
     push_row_begin(out, sheet, story, row)?;
     let text = row_text(alloc, sheet, story, row)?;
@@ -100,25 +105,36 @@ fn row_text(
     sheet: Sheet,
     story: &Story,
     row: &TracedStep,
-) -> Result<Vec<u8>, AllocError> {
+) -> Result<Vec<u8>, AllocError>
+    ensures { IfOk result (λ text. IsSaid story.now.state.history row.now text.items) }
+{
     let mut out = Vec::new(alloc);
     let Point { y, .. } = sheet.point(row.node, sheet.above(row.number));
     let x = sheet.text_x();
     let mark = story.mark(row);
-    if is_telling(mark) {
-        let beside = Point {
-            x: x.saturating_sub(14),
-            y,
-        };
-        push_use(&mut out, symbol_of(mark), beside)?;
-    }
+    let beside = Point {
+        x: x.saturating_sub(14),
+        y,
+    };
+    push_again(&mut out, mark, beside)?;
     let words = words_of(alloc, story, row)?;
     let at = Point {
         x,
         y: y.saturating_add(4),
     };
-    push_words(&mut out, at, &words, row_class(story, row, mark))?;
+    push_words(&mut out, at, &words, classes_of(story, row, mark))?;
     Ok(out)
+}
+
+/// The mark once more, where it tells.
+fn push_again(out: &mut Vec<u8>, mark: Mark, at: Point) -> Result<(), AllocError>
+    ensures { OnOk result (out.new.items ≡ out.old.items ++ again_text mark at) }
+{
+    if is_telling(mark) {
+        push_use(out, symbol_of(mark), at)
+    } else {
+        Ok(())
+    }
 }
 
 /// The number of a step, before the columns.
@@ -132,8 +148,10 @@ pub(crate) fn push_step_number(out: &mut Vec<u8>, number: u64, y: u64) -> Result
     push_label(out, b"e", at, &digits)
 }
 
-/// The classes of a row's text: what matters stands out, and what is undone is struck through.
-fn row_class(story: &Story, row: &TracedStep, mark: Mark) -> &'static [u8] {
+/// The classes of a row's words: what matters stands out, and what is undone is struck through.
+fn classes_of(story: &Story, row: &TracedStep, mark: Mark) -> &'static [u8]
+    ensures { result.now ≡ classes_of (act_is_lost story.now.state.history row.now) (is_telling mark) }
+{
     if story.is_lost(row) {
         b"t s"
     } else if is_telling(mark) {
@@ -143,28 +161,14 @@ fn row_class(story: &Story, row: &TracedStep, mark: Mark) -> &'static [u8] {
     }
 }
 
-/// The text of a row. Of a service that is lost the reason is not struck through.
-fn push_words(
-    out: &mut Vec<u8>,
-    at: Point,
-    words: &Words,
-    classes: &[u8],
-) -> Result<(), AllocError> {
-    let is_split = !words.reason.is_empty();
-    out.extend_from_slice(b"<text class=\"")?;
-    out.extend_from_slice(if is_split { b"t".as_slice() } else { classes })?;
-    out.extend_from_slice(b"\" x=\"")?;
-    push_number(out, at.x)?;
-    out.extend_from_slice(b"\" y=\"")?;
-    push_number(out, at.y)?;
-    out.extend_from_slice(b"\">")?;
-    if is_split {
-        out.extend_from_slice(b"<tspan class=\"s\">")?;
+/// The words of a row. Of a service that is lost the reason is not struck through.
+fn push_words(out: &mut Vec<u8>, at: Point, words: &Words, classes: &[u8]) -> Result<(), AllocError>
+    ensures { OnOk result (out.new.items ≡ out.old.items
+        ++ words_text classes.now at words.now.said.items words.now.reason.items) }
+{
+    if words.reason.is_empty() {
+        push_label(out, classes, at, &words.said)
+    } else {
+        push_struck(out, at, &words.said, &words.reason)
     }
-    push_escaped(out, &words.said)?;
-    if is_split {
-        out.extend_from_slice(b"</tspan>")?;
-        push_escaped(out, &words.reason)?;
-    }
-    out.extend_from_slice(b"</text>\n")
 }

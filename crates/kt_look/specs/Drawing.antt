@@ -13,9 +13,13 @@ use Rattle.kt_scene.specs.declared.fault.ReplayFault.TheVariants as faults
 use Rattle.kt_trace.specs.declared.traced.Refused.{Refused}
 use Rattle.kt_look.specs.Told.{IsUntold}
 use Rattle.kt_story.specs.Story.{IsStoryOf, StoryModel}
-use Rattle.kt_draw.specs.Rows.{HasRows}
+use Rattle.kt_draw.specs.Rows.{HasRows, picture_head}
+use Rattle.kt_draw.specs.declared.picture.Form.TheVariants.{Alone}
+use Rattle.kt_page.specs.Head.{page_head}
 use Rattle.kt_draw.specs.declared.picture.TheConstants.{MOST_ROWS}
 use Rattle.kt_look.specs.declared.drawing.Drawing.{Drawing}
+use Rattle.kt_look.specs.declared.drawing.Kind.{Kind}
+use Rattle.kt_look.specs.declared.drawing.Kind.TheVariants as kinds
 use Rattle.kt_look.specs.declared.drawing.DrawFault.{DrawFault}
 use Rattle.kt_look.specs.declared.drawing.DrawFault.TheVariants.{TooMany, Replay}
 
@@ -27,13 +31,18 @@ made drawing steps = take drawing.to steps
 abbrev pub drawn_count : Drawing → List Step → ℕ
 drawn_count drawing steps = length (made drawing steps) - (drawing.from - 1)
 
+-- how a drawing of this kind begins
+abbrev pub head_of : Kind → List ℕ
+head_of kinds.Picture = picture_head Alone
+head_of kinds.Page = page_head
+
 -- how the steps ended: by the one that was refused, if one was
 abbrev pub end_by : Option Refused → Result (Unit {0}) DrawFault
 end_by None = Ok tt
 end_by (Some r) = Err (Replay (faults.Step r.number r.cause))
 
--- the text spells a scenario of steps; what is drawn has the rows of its story from the first one that is to be drawn
--- on, in order; and the steps ended so
+-- the text spells a scenario of steps; what is drawn begins as its kind does, and has the rows of the scenario's story
+-- from the first one that is to be drawn on, in order; and the steps ended so
 pub record IsDrawn (drawing : Drawing) (text drawn : List ℕ) (end : Result (Unit {0}) DrawFault) : Type 0 where
   pub scene : SceneModel
   pub steps : List Step
@@ -41,7 +50,7 @@ pub record IsDrawn (drawing : Drawing) (text drawn : List ℕ) (end : Result (Un
   pub few : drawn_count drawing steps ≤ MOST_ROWS
   pub story : StoryModel
   pub told : IsStoryOf (opening scene) (made drawing steps) story
-  pub rows : HasRows story.state.history drawing.from story.rows drawn
+  pub rows : HasRows (head_of drawing.kind) story drawing.from drawn
   pub ended : end ≡ end_by story.refused
 
 -- the text spells a scenario of which so many steps are to be drawn, which are too many

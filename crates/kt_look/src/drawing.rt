@@ -5,7 +5,7 @@ ghost use Rattle.std.specs.Prelude.{◌≡◌, ◌-◌, IfErr, IfOk, length, tak
 ghost use Rattle.kt_model.specs.Reached.{opening};
 ghost use Rattle.kt_story.specs.Story.{IsStoryOf};
 ghost use Rattle.kt_draw.specs.Rows.{HasRows};
-ghost use Rattle.kt_look.specs.Drawing.{EndsDrawing, IsDrawn, IsUndrawn, end_by};
+ghost use Rattle.kt_look.specs.Drawing.{EndsDrawing, IsDrawn, IsUndrawn, end_by, head_of};
 
 use kt_core::{Scene, Step};
 use kt_draw::{Form, MOST_ROWS, picture_of};
@@ -125,7 +125,7 @@ fn drawn_count(steps: &[Step], from: u64) -> u64
 fn draw(alloc: Global, scene: Scene, steps: &[Step], drawing: Drawing) -> Result<Drawn, AllocError>
     ensures story { IfOk result (λ drawn. IsStoryOf (opening scene) steps.now drawn.story) }
     ensures rows { IfOk result (λ drawn.
-        HasRows drawn.story.state.history drawing.from drawn.story.rows drawn.text.items) }
+        HasRows (head_of drawing.kind) drawn.story drawing.from drawn.text.items) }
 {
     match drawing.kind {
         Kind::Picture => {

@@ -5,6 +5,7 @@ ghost use Rattle.std.specs.Prelude.{IfOk};
 ghost use Rattle.kt_model.specs.Reached.{opening};
 ghost use Rattle.kt_story.specs.Story.{IsStoryOf};
 ghost use Rattle.kt_draw.specs.Rows.{HasRows};
+ghost use Rattle.kt_page.specs.Head.{page_head};
 
 use crate::fate::Fates;
 use crate::json::push_changes;
@@ -33,7 +34,7 @@ pub struct Drawn {
 pub fn page_of(alloc: Global, scene: Scene, steps: &[Step], first: u64) -> Result<Drawn, AllocError>
     ensures story { IfOk result (λ drawn. IsStoryOf (opening scene) steps.now drawn.story) }
     ensures rows { IfOk result (λ drawn.
-        HasRows drawn.story.state.history first drawn.story.rows drawn.text.items) }
+        HasRows page_head drawn.story first drawn.text.items) }
 {
     let watched = watch(alloc, scene, steps, first)?;
     let text = page(alloc, &watched, first)?;
@@ -41,24 +42,27 @@ pub fn page_of(alloc: Global, scene: Scene, steps: &[Step], first: u64) -> Resul
     Ok(Drawn { story, text })
 }
 
-/// What stands before the picture, the picture, and what stands behind it.
+/// The page's first line, what stands before the picture, the picture, and what stands behind it.
 fn page(alloc: Global, watched: &Watched, first: u64) -> Result<Vec<u8>, AllocError>
     ensures { IfOk result (λ text.
-        HasRows watched.now.story.state.history first watched.now.story.rows text.items) }
+        HasRows page_head watched.now.story first text.items) }
 {
     let story = &watched.story;
     let count = story.rows().len() as u64;
     let shown = first.max(1).min(count.saturating_add(1));
     let fates = Fates::of(alloc, story)?;
-    let mut text = front(alloc, watched, shown)?;
+    let front = front(alloc, watched, shown)?;
     let picture = picture_of(alloc, story, first, Form::InPage)?;
-    text.extend_from_slice(&picture)?;
     let rest = rest(alloc, watched, &fates, shown)?;
+    let mut text = Vec::new(alloc);
+    text.extend_from_slice(b"<!DOCTYPE html>\n")?;
+    text.extend_from_slice(&front)?;
+    text.extend_from_slice(&picture)?;
     text.extend_from_slice(&rest)?;
     Ok(text)
 }
 
-/// What stands before the picture.
+/// What stands between the page's first line and the picture.
 fn front(alloc: Global, watched: &Watched, first: u64) -> Result<Vec<u8>, AllocError> {
     let mut text = Vec::new(alloc);
     push_top(alloc, &mut text, watched, first)?;
@@ -97,9 +101,7 @@ fn push_top(
     first: u64,
 ) -> Result<(), AllocError> {
     let title = title_of(alloc, &watched.story, first)?;
-    out.extend_from_slice(
-        b"<!DOCTYPE html>\n<html lang=\"en\">\n<head>\n<meta charset=\"utf-8\">\n",
-    )?;
+    out.extend_from_slice(b"<html lang=\"en\">\n<head>\n<meta charset=\"utf-8\">\n")?;
     out.extend_from_slice(
         b"<meta name=\"viewport\" content=\"width=device-width,initial-scale=1\">\n",
     )?;

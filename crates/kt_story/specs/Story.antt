@@ -1,5 +1,5 @@
 -- What happened in a scene: the rows of its trace, the state behind them, and which acts of it survive.
--- Cited by Splitting, Telling, story.rt, `story::split`; other crates.
+-- Cited by Splitting, Telling, story.rt, words.rt, `story::split`; other crates.
 use Rattle.std.specs.Prelude.{◌≡◌, ℕ, Bool, true, false, not, ◌&&◌, List, [], ◌∷◌, Option, None, Some}
 use Rattle.std.specs.List.{filter_map}
 use Rattle.kt_history.specs.declared.note.Note.{Note}

@@ -1,7 +1,7 @@
 //! What happened in a scene: its rows, the world behind them, and what was lost.
 //! Cited by arrow.rt, words.rt; other crates.
 
-ghost use Rattle.std.specs.Prelude.{◌≡◌, ◌++◌, ◌∷◌, [], IfOk, IsTrue, None, OnOk};
+ghost use Rattle.std.specs.Prelude.{◌≡◌, ◌++◌, ◌∷◌, [], IfOk, IsTrue, None, OnOk, length};
 ghost use Rattle.kt_history.specs.Survival.{survives};
 ghost use Rattle.kt_model.specs.Reached.{opening};
 ghost use Rattle.kt_story.specs.Marks.{mark_of};
@@ -85,12 +85,16 @@ impl Story {
     }
 
     /// How many workers the scene has.
-    pub fn workers(&self) -> u8 {
+    pub fn workers(&self) -> u8
+        ensures { result ≡ length self.now.state.scene.scripts }
+    {
         self.world.scene().scripts().len() as u8
     }
 
     /// How many shards it has.
-    pub fn shards(&self) -> u8 {
+    pub fn shards(&self) -> u8
+        ensures { result ≡ self.now.state.scene.shards }
+    {
         self.world.scene().shards()
     }
 

@@ -1,9 +1,10 @@
 //! What is said of a row, of a service, and of why it is lost.
 //! Cited by other crates.
 
-ghost use Rattle.std.specs.Prelude.{◌≡◌, ◌++◌, ◌∷◌, [], ℕ, List, length, OnOk};
+ghost use Rattle.std.specs.Prelude.{◌≡◌, ◌++◌, ◌∷◌, [], ℕ, List, false, length, IfOk, OnOk};
 ghost use Rattle.kt_story.specs.Said.{count_text, got_text, how_text, reason_text, service_text};
 ghost use Rattle.kt_story.specs.Said.{shortened, told_text};
+ghost use Rattle.kt_story.specs.Story.{act_is_lost};
 ghost use Rattle.kt_story.specs.auxiliary.Saved.{saved_text};
 
 use crate::story::{Blame, Story};
@@ -43,22 +44,36 @@ impl Words {
 }
 
 /// What is said of the row: of a service its request and its answer; of all else the words of the trace, without what
-/// the picture shows. A text that is too long ends in three dots.
-pub fn words_of(alloc: Global, story: &Story, row: &TracedStep) -> Result<Words, AllocError> {
+/// the picture shows. A text that is too long ends in three dots. There is a reason only where an act is lost.
+pub fn words_of(alloc: Global, story: &Story, row: &TracedStep) -> Result<Words, AllocError>
+    ensures reason { IfOk result (λ words.
+        act_is_lost story.now.state.history row.now ≡ false → words.reason.items ≡ []) }
+{
+    let reason = reason_of(alloc, story, row)?;
     let mut said = Vec::new(alloc);
-    let mut reason = Vec::new(alloc);
     match served(row) {
         Some((act, answer)) => {
             push_request(&mut said, act)?;
             push_service(&mut said, &act.op, answer, MOST_OP)?;
-            if let Some(blame) = story.blame(row) {
-                reason.extend_from_slice(b", ")?;
-                push_reason(&mut reason, blame)?;
-            }
         }
         None => push_other(&mut said, row)?,
     }
     Ok(Words { said, reason })
+}
+
+/// Why the row's service is lost, behind a comma; nothing where no act is lost.
+fn reason_of(alloc: Global, story: &Story, row: &TracedStep) -> Result<Vec<u8>, AllocError>
+    ensures { IfOk result (λ reason.
+        act_is_lost story.now.state.history row.now ≡ false → reason.items ≡ []) }
+{
+    let mut reason = Vec::new(alloc);
+    if story.is_lost(row) {
+        if let Some(blame) = story.blame(row) {
+            reason.extend_from_slice(b", ")?;
+            push_reason(&mut reason, blame)?;
+        }
+    }
+    Ok(reason)
 }
 
 /// The service that the row made, and its answer.

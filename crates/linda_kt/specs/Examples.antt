@@ -233,9 +233,10 @@ pub trace_fails : (words_fault (codes "trace" ∷ codes "--from=0" ∷ []) ≡ V
     × (words_fault (codes "trace" ∷ codes "--to=x" ∷ []) ≡ ValueValidation ∷ [])
     × (words_fault (codes "trace" ∷ codes "--from=9" ∷ codes "--to=3" ∷ []) ≡ ValueValidation ∷ [])
     × (words_fault (codes "trace" ∷ codes "--node=w17" ∷ []) ≡ ValueValidation ∷ [])
+    × (words_fault (codes "trace" ∷ codes "--node=w01" ∷ []) ≡ ValueValidation ∷ [])
     × (words_fault (codes "trace" ∷ codes "--html" ∷ []) ≡ UnknownArgument ∷ [])
 unfolding clap_on_literals
-trace_fails = (refl, refl, refl, refl, refl)
+trace_fails = (refl, refl, refl, refl, refl, refl)
 
 -- `draw` draws a picture, or a page with its flag
 pub draw_passes : (words_fault (codes "draw" ∷ []) ≡ [])

@@ -1,6 +1,7 @@
 -- Numbers among the words of the command line.
 -- Cited by Numbers, looking.rt, specs/Words, trials.rt.
-use Rattle.std.specs.Prelude.{ℕ, nat_le, ◌&&◌, Option, None, Some, if◌then◌else◌, option_map}
+use Rattle.std.specs.Prelude.{ℕ, nat_le, ◌==◌, Bool, false, not, ◌&&◌, List, [], ◌∷◌, Option, None, Some, if◌then◌else◌}
+use Rattle.std.specs.Prelude.{option_map}
 use Rattle.std.specs.Str.Parse.{digits_value, without_leading_plus}
 use Rattle.clap.specs.Lexer.{strip_byte}
 use Rattle.clap.specs.ValueTests.{is_unsigned_in}
@@ -34,11 +35,20 @@ count_of text = in_range 1 MAX_CHAOS (number_of text)
 abbrev pub step_of : Text → Option ℕ
 step_of text = in_range 1 LAST_STEP (number_of text)
 
+-- it begins with neither a plus (43) nor a zero (48)
+abbrev pub begins_plainly : Text → Bool
+begins_plainly [] = false
+begins_plainly (c ∷ rest) = not (c == 43) && not (c == 48)
+
+-- the number that the text writes as names have it
+abbrev pub name_number : Text → Option ℕ
+name_number digits = if begins_plainly digits then number_of digits else None
+
 abbrev pub worker_of : Text → Option NodeId
-worker_of digits = option_map (λ n. Worker n) (in_range 1 MAX_WORKERS (number_of digits))
+worker_of digits = option_map (λ n. Worker n) (in_range 1 MAX_WORKERS (name_number digits))
 
 abbrev pub shard_of : Text → Option NodeId
-shard_of digits = option_map (λ n. Shard n) (in_range 1 MAX_SHARDS (number_of digits))
+shard_of digits = option_map (λ n. Shard n) (in_range 1 MAX_SHARDS (name_number digits))
 
 -- by what stands behind a `w` (119), or else behind an `s` (115)
 abbrev pub node_by : Option Text → Option Text → Option NodeId

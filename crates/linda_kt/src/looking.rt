@@ -4,8 +4,9 @@ ghost use Rattle.std.specs.Prelude.{◌≡◌, option_map};
 ghost use Rattle.clap.specs.Lexer.{strip_byte};
 ghost use Rattle.clap.specs.Words.{found_of, rows_of};
 ghost use Rattle.kt_command.specs.Asking.{task_of};
-ghost use Rattle.linda_kt.specs.Numbers.{node_named, shard_of, step_of, worker_of};
-ghost use Rattle.linda_kt.specs.Words.{draw_of, drawn_kind, form_of, node_given, range_of, step_given, told_as, trace_of};
+ghost use Rattle.linda_kt.specs.Numbers.{begins_plainly, name_number, node_named, shard_of, step_of, worker_of};
+ghost use Rattle.linda_kt.specs.Words.{draw_of, drawn_kind, form_of, node_given, range_of, step_given, told_as};
+ghost use Rattle.linda_kt.specs.Words.{trace_of};
 
 use crate::trials::{from_one_to, number_of};
 use crate::words::{Misfit, has_flag, text_of};
@@ -139,11 +140,32 @@ fn behind_s(text: &str) -> Option<&str>
     text.strip_prefix('s')
 }
 
+/// The number of a node, as names have it: with no plus and no zero in front.
+fn name_number(digits: &str) -> Option<u64>
+    ensures { result ≡ name_number digits.now }
+{
+    if begins_plainly(digits) {
+        number_of(digits)
+    } else {
+        None
+    }
+}
+
+/// Whether it begins with neither a plus nor a zero.
+fn begins_plainly(digits: &str) -> bool
+    ensures { result ≡ begins_plainly digits.now }
+{
+    match digits.as_bytes().first() {
+        Some(first) => *first != b'+' && *first != b'0',
+        None => false,
+    }
+}
+
 /// The worker of this number.
 fn worker_of(digits: &str) -> Option<NodeId>
     ensures { result ≡ worker_of digits.now }
 {
-    match number_of(digits) {
+    match name_number(digits) {
         Some(number) => match from_one_to(u64::from(MAX_WORKERS), number) {
             Some(number) => Some(NodeId::Worker(number as u8)),
             None => None,
@@ -156,7 +178,7 @@ fn worker_of(digits: &str) -> Option<NodeId>
 fn shard_of(digits: &str) -> Option<NodeId>
     ensures { result ≡ shard_of digits.now }
 {
-    match number_of(digits) {
+    match name_number(digits) {
         Some(number) => match from_one_to(u64::from(MAX_SHARDS), number) {
             Some(number) => Some(NodeId::Shard(number as u8)),
             None => None,

@@ -2,7 +2,7 @@ use Rattle.std.proofs.Common.{◌≡◌, ◌+◌, List, ap, subst, ◌∙◌, le
 use Rattle.std.specs.Prelude.{max, min}
 use Rattle.std.proofs.lemmas.Grind.{common_steps}
 use Rattle.kt_trace.specs.declared.traced.TracedStep.{TracedStep}
-use Rattle.kt_draw.specs.Rows.{HasRowsOn}
+use Rattle.kt_draw.specs.Rows.{HasRowsOn, picture_head}
 use Rattle.kt_draw.proofs.picture.picture_of.Goals as goal
 
 pub returns : goal.returns
@@ -11,9 +11,11 @@ returns c =
     record {
       drawn = record {
         sheet = c.in_ok-sheet.sheet;
+        workers = c.in_ok-sheet.ensures.workers;
+        shards = c.in_ok-sheet.ensures.shards;
         top = c.in_ok-sheet.ensures.first ∙ first;
         room = c.in_ok-sheet.ensures.rows ∙ ap (λ (rows : List TracedStep). min (length rows) 4294967295) c.rows_from-rows.ensures;
-        rows = subst (λ (rows : List TracedStep). HasRowsOn c.in_ok-sheet.sheet c.args.story.now.state.history rows c.push_all.new.out.items)
-            c.rows_from-rows.ensures c.in_ok-push_all.ensures;
+        rows = subst (λ (rows : List TracedStep). HasRowsOn (picture_head c.args.form) c.in_ok-sheet.sheet c.args.story.now.state.history
+            rows c.in_ok-text.text.items) c.rows_from-rows.ensures c.in_ok-text.ensures;
       };
     }

@@ -1,0 +1,13 @@
+use Rattle.std.proofs.Common.{ℕ, List, ◌++◌, ap, ◌∙◌}
+use Rattle.kt_draw.specs.Rows.{picture_head}
+use Rattle.kt_draw.proofs.Drawn.{has_rows}
+use Rattle.kt_draw.proofs.picture.text_of.Goals as goal
+
+pub returns : goal.returns
+returns c =
+    has_rows (picture_head c.args.form) c.args.drawing.now.sheet c.args.story.now.state.history c.args.rows.now c.deref-2.result.now
+    c.extend_from_slice-2.new.self.items c.push_rows.new.out.items c.deref-3.result.now c.extend_from_slice-3.new.self.items
+    (c.in_ok-extend_from_slice-2.ensures.items
+    ∙ ap (λ (t : List ℕ). t ++ c.deref-2.result.now) (c.in_ok-extend_from_slice.ensures.items
+    ∙ ap (λ (t : List ℕ). t ++ c.picture_head.result.now) c.new-out.ensures.items ∙ c.picture_head.ensures))
+    c.in_ok-push_rows.ensures c.in_ok-extend_from_slice-3.ensures.items
