@@ -6,6 +6,7 @@
 
 mod counts;
 mod fresh;
+mod looking;
 mod refusing;
 mod resuming;
 mod runs;
@@ -21,6 +22,7 @@ mod trials;
 mod words;
 
 use crate::fresh::Fresh;
+use crate::looking::looks_in_turn;
 use crate::resuming::resumed_in_turn;
 use crate::runs::{
     completed_in_turn, gone_on_in_turn, replayed_in_turn, run_in_turn, threads_in_turn,
@@ -144,6 +146,7 @@ fn main(rt: HostRuntime) -> Result<(), Fail> {
     let mut reader = Source::new(rt.stdin());
     let text = read_text(alloc, &mut reader)?;
     match word.as_bytes() {
+        b"looks" => looks_in_turn(&rt, alloc, &text),
         b"steps" => try_scenario::<_, MemStore>(&rt, &rt, alloc, &text),
         b"steps-in-sql" => try_scenario::<_, SqlStore<Disk>>(&rt, &rt, alloc, &text),
         b"run" => try_runs(&rt, &rt, alloc, &text),
