@@ -1,4 +1,0 @@
-pub mod Plain
-pub mod Apart
-pub mod Behind
-pub mod Drawn

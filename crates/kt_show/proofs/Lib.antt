@@ -1,9 +1,0 @@
-pub mod Later
-pub mod Lines
-pub mod Rows
-pub mod Boards
-pub mod Arrays
-pub mod Objects
-pub mod Depths
-pub mod Helds
-pub mod Texts

@@ -1,8 +1,0 @@
-use Rattle.kt_show.specs.Shown.{waiting_line}
-use Rattle.kt_show.proofs.Lines.{one_more}
-use Rattle.kt_show.proofs.state.push_waiting.Goals as goal
-
-pub loop-entry-preserved : goal.loop-entry-preserved
-loop-entry-preserved c =
-    one_more waiting_line c.args.out.now.items c.loop-entry.out.items c.push_one_waiting.new.out.items c.args.waiting.now c.loop-entry.entry-index
-    c.entry-item.result c.loop-entry-test.true c.entry-item.is c.loop-entry.invariant c.in_ok-push_one_waiting.ensures

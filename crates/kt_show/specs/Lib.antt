@@ -1,4 +1,0 @@
-pub mod Shown
-pub mod ShownJson
-pub mod Calls
-pub mod auxiliary

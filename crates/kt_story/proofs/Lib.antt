@@ -1,4 +1,0 @@
-pub mod Deciding
-pub mod Splitting
-pub mod Cutting
-pub mod Telling

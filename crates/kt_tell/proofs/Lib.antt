@@ -1,4 +1,0 @@
-pub mod Pieces
-pub mod Chains
-pub mod Arrays
-pub mod Tellings

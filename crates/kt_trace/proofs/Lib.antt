@@ -1,4 +1,0 @@
-pub mod Going
-pub mod Sending
-pub mod Refusals
-pub mod Stepped
