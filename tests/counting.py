@@ -3,10 +3,10 @@
 The pages say how much is proved and tested; since they take these figures from here, none is stale.
 """
 
-import ast
 import re
 
 from heads import listed
+from on_program.cases import CASES
 from pages import rows_of
 from sources import ROOT, Source, edits, files, is_there, text_of, tokens_of
 
@@ -100,10 +100,7 @@ def random_scenes():
 
 def program_cases():
     """How many rows the table of `tests/program` has."""
-    for part in ast.parse(text_of("tests/on_program/cases.py")).body:
-        if isinstance(part, ast.Assign) and part.targets[0].id == "CASES":
-            return len(part.value.elts)
-    return 0
+    return len(CASES)
 
 
 def promises():

@@ -128,7 +128,7 @@ CASES = [
      Starts("error: the argument '--from <N>' wants a step that is not behind that of '--to <N>'"), 2),
     *((f"a trace of {node}", ["trace", "--node", node], b"", b"",
        Starts("error: the argument '--node <NODE>' wants a worker, from w1 to w16, or a shard, from s1 to s8"), 2)
-      for node in ("w17", "s9", "w0", "w01", "w+1", "w", "x1", "W1", "w1 ", "")),
+      for node in ("w17", "s9", "w0", "w01", "w+1", "w", "x1", "S2", "w1 ", "")),
     ("a store for a check", ["check", "--store", "a.db"], b"", b"",
      Starts("error: unexpected argument '--store' found"), 2),
     ("a word behind manual", ["manual", "replay"], b"", b"", Starts("error: unexpected argument 'replay' found"), 2),

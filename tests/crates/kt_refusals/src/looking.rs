@@ -28,8 +28,7 @@ impl Look {
         }
     }
 
-    /// Of so many growths in a row one is refused: a page has thousands, and each is refused to a page that is made
-    /// from the begin.
+    /// Of so many growths in a row one is refused: a page has thousands, and for each that is refused it is made anew.
     fn stride(self) -> usize
         ensures { 1 ≤ result }
     {
