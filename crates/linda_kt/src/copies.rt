@@ -4,6 +4,8 @@
 //! beside it are copied into a folder of their own, among the files that are temporary. A program may write them
 //! meanwhile, and such a copy can hold parts of two moments: so it is thrown away, and another one is made.
 //! Cited by files.rt.
+ghost use Rattle.std.specs.Prelude.{◌≡◌, ◌↔◌, ◌⊎◌};
+ghost use Rattle.std.specs.IoError.{error_kind};
 
 use kt_sql::SqlOpenError;
 use std::alloc::AllocError;
@@ -256,7 +258,13 @@ fn copy_bytes(rt: &HostRuntime, file: &mut fs::File, to: &str) -> Result<(), Sho
 }
 
 /// Why a file was not read.
-fn read_fault(error: io::Error) -> ShowError {
+fn read_fault(error: io::Error) -> ShowError
+    ensures memory { result ≡ ShowError.Memory ↔ error_kind error ≡ ErrorKind.OutOfMemory }
+    ensures missing { result ≡ ShowError.Missing
+        ↔ (error_kind error ≡ ErrorKind.NotFound) ⊎ (error_kind error ≡ ErrorKind.NotADirectory) }
+    ensures else_unreadable { (result ≡ ShowError.Memory) ⊎ ((result ≡ ShowError.Missing)
+        ⊎ (result ≡ ShowError.Unreadable)) }
+{
     match error.kind() {
         ErrorKind::NotFound | ErrorKind::NotADirectory => ShowError::Missing,
         ErrorKind::OutOfMemory => ShowError::Memory,
@@ -265,7 +273,10 @@ fn read_fault(error: io::Error) -> ShowError {
 }
 
 /// Why a copy was not written.
-fn copy_fault(error: io::Error) -> ShowError {
+fn copy_fault(error: io::Error) -> ShowError
+    ensures memory { result ≡ ShowError.Memory ↔ error_kind error ≡ ErrorKind.OutOfMemory }
+    ensures else_no_copy { (result ≡ ShowError.Memory) ⊎ (result ≡ ShowError.NoCopy) }
+{
     match error.kind() {
         ErrorKind::OutOfMemory => ShowError::Memory,
         _ => ShowError::NoCopy,

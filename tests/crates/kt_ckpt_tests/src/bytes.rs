@@ -77,8 +77,9 @@ fn changed(rt: &impl Abort, alloc: Global, bytes: &[u8]) -> Result<(u32, u32), F
         for other in (0..=255u8).filter(|other| *other != bytes[place]) {
             changed[place] = other;
             match Ckpt::decode(alloc, &changed) {
-                Ok(_) => {
-                    assert!(rt; comes_back(alloc, &changed), "{place} {other}");
+                Ok(ckpt) => {
+                    let written = ckpt.encode(alloc)?;
+                    assert!(rt; written.as_slice() == changed.as_slice(), "{place} {other}");
                     read += 1;
                 }
                 Err(fault) => {
