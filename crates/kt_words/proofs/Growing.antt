@@ -1,9 +1,9 @@
 -- A text that grows: what stood there still does.
 -- Cited by bash.rt, escape.rt, fish.rt, page.rt, page_commands.rt, text.rt, zsh.rt, `bash::push_bash`,
 --   `bash::push_case`, `bash::push_cases`, `bash::push_options`, `bash::push_valued`, `completing::completion`,
---   `fish::push_case`, `fish::push_cases`, `fish::push_option`, `fish::push_options`, `page::manual`,
---   `page::push_head`, `page::push_page`, `page::push_status`, `page_commands::push_argument_entry`,
---   `page_commands::push_argument`, `page_commands::push_command` and 14 more.
+--   `fish::push_case`, `fish::push_cases`, `fish::push_fish`, `fish::push_option`, `fish::push_options`,
+--   `page::manual`, `page::push_head`, `page::push_page`, `page::push_status`, `page_commands::push_argument_entry`,
+--   `page_commands::push_argument` and 15 more.
 use Rattle.std.proofs.Common.{◌≡◌, ℕ, ◌<◌, ◌≤◌, ◌+◌, List, [], ◌∷◌, ◌++◌}
 use Rattle.std.proofs.Common.{length, get_or, take, refl, sym, ap, subst, ◌∙◌, append_assoc, arith}
 use Rattle.std.proofs.lemmas.List.{append-nil, take_all}

@@ -1,5 +1,6 @@
 -- The shells and their names.
--- Cited by shell.rt; other crates.
+-- Cited by bash.rt, completing.rt, fish.rt, shell.rt, zsh.rt, `bash::push_bash`, `fish::push_fish`, `zsh::push_zsh`;
+--   other crates.
 use Rattle.std.specs.Prelude.{◌≡◌, ℕ, if◌then◌else◌, List, Option, None, Some, codes, refl}
 use Rattle.kt_words.specs.declared.shell.Shell.{Shell}
 use Rattle.kt_words.specs.declared.shell.Shell.TheVariants.{Bash, Zsh, Fish}
@@ -9,6 +10,12 @@ abbrev pub name_of : Shell → List ℕ
 name_of Bash = codes "bash"
 name_of Zsh = codes "zsh"
 name_of Fish = codes "fish"
+
+-- what a script says of itself: which shell it is for
+abbrev pub purpose_of : Shell → List ℕ
+purpose_of Bash = codes "# Completes the words of linda_kt in bash."
+purpose_of Zsh = codes "# Completes the words of linda_kt in zsh."
+purpose_of Fish = codes "# Completes the words of linda_kt in fish."
 
 -- the shell of a name, if one has it
 abbrev pub shell_of : List ℕ → Option Shell

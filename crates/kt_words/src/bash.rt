@@ -3,7 +3,10 @@
 #![tactic(auto, using(crate::proofs::Growing::growing))]
 
 ghost use Rattle.std.specs.Prelude.{All, OnOk};
+ghost use Rattle.std.specs.Str.Iter.{HasSubslice};
 ghost use Rattle.kt_words.specs.Plain.{IsPlain};
+ghost use Rattle.kt_words.specs.Shell.{purpose_of};
+ghost use Rattle.kt_words.specs.declared.shell.Shell.TheVariants as shells;
 ghost use Rattle.kt_words.specs.auxiliary.Growth.{Extends, HasCommand, HasCommands, HasOption, HasOptions};
 ghost use Rattle.kt_words.specs.auxiliary.Parts.{IsPlainArgument, IsPlainCommand, IsPlainOption};
 
@@ -11,9 +14,11 @@ use crate::text::{push_text, push_values, separator_before};
 use crate::words::{ArgumentWords, CommandWords, OptionWords, ValueKind};
 use std::alloc::AllocError;
 
+/// What the script is for.
+const PURPOSE: &str = "# Completes the words of linda_kt in bash.";
+
 /// What stands before the commands. bash makes a word of its own of a `=` between an option and its value.
-const HEAD: &str = "\
-# Completes the words of linda_kt in bash. For each new shell, in ~/.bashrc:
+const HEAD: &str = " For each new shell, in ~/.bashrc:
 #     source <(linda_kt completion bash)
 
 _linda_kt() {
@@ -65,7 +70,9 @@ pub(crate) fn push_bash(out: &mut Vec<u8>, commands: &[CommandWords]) -> Result<
     requires { All IsPlainCommand commands.now }
     ensures extends { OnOk result (Extends out.old.items out.new.items) }
     ensures words { OnOk result (HasCommands out.new.items commands.now) }
+    ensures purpose { OnOk result (HasSubslice out.new.items (purpose_of shells.Bash)) }
 {
+    push_text(out, PURPOSE)?;
     push_text(out, HEAD)?;
     push_names(out, commands)?;
     push_text(out, BEHIND_NAMES)?;

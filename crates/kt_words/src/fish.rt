@@ -3,7 +3,10 @@
 #![tactic(auto, using(crate::proofs::Growing::growing))]
 
 ghost use Rattle.std.specs.Prelude.{All, OnOk};
+ghost use Rattle.std.specs.Str.Iter.{HasSubslice};
 ghost use Rattle.kt_words.specs.Plain.{IsPlain};
+ghost use Rattle.kt_words.specs.Shell.{purpose_of};
+ghost use Rattle.kt_words.specs.declared.shell.Shell.TheVariants as shells;
 ghost use Rattle.kt_words.specs.auxiliary.Growth.{Extends, HasCommand, HasCommands, HasOption, HasOptions};
 ghost use Rattle.kt_words.specs.auxiliary.Parts.{IsPlainArgument, IsPlainCommand, IsPlainOption};
 
@@ -12,9 +15,11 @@ use crate::text::{push_text, push_values};
 use crate::words::{ArgumentWords, CommandWords, OptionWords, ValueKind};
 use std::alloc::AllocError;
 
+/// What the script is for.
+const PURPOSE: &str = "# Completes the words of linda_kt in fish.";
+
 /// What stands before the commands.
-const HEAD: &str = "\
-# Completes the words of linda_kt in fish. In ~/.config/fish/completions/linda_kt.fish, or at once:
+const HEAD: &str = " In ~/.config/fish/completions/linda_kt.fish, or at once:
 #     linda_kt completion fish | source
 
 function __linda_kt_needs_command
@@ -36,7 +41,9 @@ pub(crate) fn push_fish(out: &mut Vec<u8>, commands: &[CommandWords]) -> Result<
     requires { All IsPlainCommand commands.now }
     ensures extends { OnOk result (Extends out.old.items out.new.items) }
     ensures words { OnOk result (HasCommands out.new.items commands.now) }
+    ensures purpose { OnOk result (HasSubslice out.new.items (purpose_of shells.Fish)) }
 {
+    push_text(out, PURPOSE)?;
     push_text(out, HEAD)?;
     push_cases(out, commands)
 }

@@ -3,7 +3,10 @@
 #![tactic(auto, using(crate::proofs::Growing::growing))]
 
 ghost use Rattle.std.specs.Prelude.{All, OnOk};
+ghost use Rattle.std.specs.Str.Iter.{HasSubslice};
 ghost use Rattle.kt_words.specs.Plain.{IsPlain};
+ghost use Rattle.kt_words.specs.Shell.{purpose_of};
+ghost use Rattle.kt_words.specs.declared.shell.Shell.TheVariants as shells;
 ghost use Rattle.kt_words.specs.auxiliary.Growth.{Extends, HasCommand, HasCommands, HasOption, HasOptions};
 ghost use Rattle.kt_words.specs.auxiliary.Parts.{IsPlainArgument, IsPlainCommand, IsPlainOption};
 
@@ -12,10 +15,14 @@ use crate::text::{push_text, push_values};
 use crate::words::{ArgumentWords, CommandWords, OptionWords, ValueKind};
 use std::alloc::AllocError;
 
+/// The line by which zsh knows the file.
+const FIRST: &str = "#compdef linda_kt\n";
+
+/// What the script is for.
+const PURPOSE: &str = "# Completes the words of linda_kt in zsh.";
+
 /// What stands before what is completed behind each command.
-const HEAD: &str = "\
-#compdef linda_kt
-# Completes the words of linda_kt in zsh. In a file `_linda_kt` of a folder of $fpath, or for each new shell, in
+const HEAD: &str = " In a file `_linda_kt` of a folder of $fpath, or for each new shell, in
 # ~/.zshrc behind compinit:
 #     source <(linda_kt completion zsh)
 
@@ -62,7 +69,10 @@ pub(crate) fn push_zsh(out: &mut Vec<u8>, commands: &[CommandWords]) -> Result<(
     requires { All IsPlainCommand commands.now }
     ensures extends { OnOk result (Extends out.old.items out.new.items) }
     ensures words { OnOk result (HasCommands out.new.items commands.now) }
+    ensures purpose { OnOk result (HasSubslice out.new.items (purpose_of shells.Zsh)) }
 {
+    push_text(out, FIRST)?;
+    push_text(out, PURPOSE)?;
     push_text(out, HEAD)?;
     push_cases(out, commands)?;
     push_text(out, BEFORE_NAMES)?;

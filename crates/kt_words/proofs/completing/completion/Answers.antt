@@ -11,3 +11,6 @@ returns-clause-plain c = plain_from_nothing _ _ (search rules) c.in_ok-push_scri
 
 pub returns-clause-words : goal.returns-clause-words
 returns-clause-words c = words_of_table _ _ _ c.commands.ensures.words c.in_ok-push_script.ensures.words
+
+pub returns-clause-purpose : goal.returns-clause-purpose
+returns-clause-purpose c = c.in_ok-push_script.ensures.purpose
