@@ -13,7 +13,7 @@ use std::process::Abort;
 use std::test::*;
 
 /// How many scenes are walked through. With memory checked each takes some seconds.
-const SCENES: u64 = 10;
+const SCENES: u64 = 50;
 
 /// After how many steps the permanent tuples are compared, of which a store in SQL reads each checkpoint.
 const PERMANENT_AFTER: usize = 8;
@@ -121,12 +121,12 @@ fn walk(rt: &impl Abort, alloc: Global, seed: u64) -> Result<u64, Fail> {
 }
 
 #[test]
-fn ten_walks(rt: HostRuntime) -> Result<(), Fail> {
+fn fifty_walks(rt: HostRuntime) -> Result<(), Fail> {
     let alloc = rt.alloc();
     let mut begun = 0u64;
     for scene in 0..SCENES {
         begun = begun.saturating_add(walk(&rt, alloc, seed_of(20_261_123, scene))?);
     }
-    assert!(rt; begun > 10, "{begun} instances were begun");
+    assert!(rt; begun > 50, "{begun} instances were begun");
     Ok(())
 }

@@ -7,7 +7,7 @@ use kt_walk::scenes::{size_up_to, scene_up_to};
 use std::alloc::Global;
 use std::test::Fail;
 
-const SCENES: u64 = 75;
+const SCENES: u64 = 300;
 
 /// How many workers, and how many shards, a scene has at most.
 const MOST: u8 = 4;
@@ -47,10 +47,10 @@ struct Made {
 
 /// What all runs come to at least, however the threads run.
 const LEAST: Made = Made {
-    steps: 12_000,
-    failures: 60,
-    checks: 60,
-    restarts: 60,
+    steps: 50_000,
+    failures: 250,
+    checks: 250,
+    restarts: 250,
 };
 
 impl Made {
