@@ -1,7 +1,7 @@
 -- Rows stand one below the other, and columns side by side.
 -- Cited by `laws::columns_stand_side_by_side`, `laws::rows_stand_one_below_the_other`.
-use Rattle.std.proofs.Common.{◌≡◌, ◌≤◌, ◌<◌, ℕ, ◌+◌, ◌-◌, ◌*◌, ◌/◌, arith}
-use Rattle.std.specs.Prelude.{min, max}
+use Rattle.std.proofs.Common.{◌≤◌, ◌<◌, ℕ, ◌+◌, ◌-◌, ◌*◌, ◌/◌, arith}
+use Rattle.std.specs.Prelude.{min}
 use Rattle.std.proofs.lemmas.Nat.{le-div}
 use Rattle.std.proofs.Math.Nat.{div-mul-le_self, le-max_right, le-min, min-le_left, min-le_right, mul-le-mul_left}
 use Rattle.kt_tuple.specs.declared.node.NodeId.TheVariants.{Worker, Shard}

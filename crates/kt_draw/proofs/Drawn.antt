@@ -5,8 +5,8 @@ use Rattle.std.proofs.Common.{append_assoc, append-nil}
 use Rattle.std.specs.Prelude.{min, nat_le}
 use Rattle.std.proofs.lemmas.Bool.Decides.{nat_tests}
 use Rattle.std.proofs.lemmas.List.{drop_all, take_all, take_more}
-use Rattle.kt_history.specs.declared.note.Note.{Note}
 use Rattle.kt_trace.specs.declared.traced.TracedStep.{TracedStep}
+use Rattle.kt_story.specs.Story.{StoryModel}
 use Rattle.kt_draw.specs.declared.sheet.Sheet.{Sheet}
 use Rattle.kt_draw.specs.Rows.{AreDrawn, HasRowsOn, IsSaid, more as drawn-more, none as drawn-none, row_begin}
 use Rattle.kt_draw.specs.auxiliary.Behind.{IsDrawnBehind, IsRowBehind}
@@ -38,10 +38,10 @@ drawn_all begin says old new rows n end drawn =
     subst P (take_all n rows end) drawn
 
 -- a text with rows that are drawn behind its head and a front, and more behind them
-pub has_rows : (head : List ℕ) (sheet : Sheet) (h : List Note) (rows : List TracedStep) (front start drawn behind whole : List ℕ)
-    → start ≡ head ++ front → IsDrawnBehind (row_begin sheet h) (IsSaid h) rows start drawn → whole ≡ drawn ++ behind
-    → HasRowsOn head sheet h rows whole
-has_rows head sheet h rows front start drawn behind whole begun inside is = record {
+pub has_rows : (head : List ℕ) (sheet : Sheet) (story : StoryModel) (rows : List TracedStep) (front start drawn behind whole : List ℕ)
+    → start ≡ head ++ front → IsDrawnBehind (row_begin sheet story.state.history) (IsSaid sheet story) rows start drawn → whole ≡ drawn ++ behind
+    → HasRowsOn head sheet story rows whole
+has_rows head sheet story rows front start drawn behind whole begun inside is = record {
   before = front;
   drawn = inside.0;
   behind = behind;

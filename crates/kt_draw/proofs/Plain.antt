@@ -1,8 +1,8 @@
 -- What is escaped has no sign of markup.
 -- Cited by `laws::what_is_escaped_has_no_markup`.
-use Rattle.std.proofs.Common.{◌≡◌, ℕ, Bool, true, false, cond, not, ◌&&◌, eqb, List, [], ◌∷◌, ◌++◌, refl, ap, ◌∙◌, codes}
+use Rattle.std.proofs.Common.{◌≡◌, ℕ, Bool, true, false, cond, ◌&&◌, eqb, List, [], ◌∷◌, refl, ap, ◌∙◌, codes}
 use Rattle.std.proofs.lemmas.List.Folds.{list_all-append}
-use Rattle.std.specs.List.{flat_map, list_all}
+use Rattle.std.specs.List.{list_all}
 use Rattle.kt_draw.specs.Escaping.{entity, escaped, is_plain}
 
 -- one character, by what it is

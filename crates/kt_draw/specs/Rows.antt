@@ -1,22 +1,25 @@
 -- How the rows of a picture are drawn: one below the other, each with its number and its mark.
 -- Cited by Drawn, Said, picture.rt, row.rt, sheet.rt, specs/auxiliary/Behind, `picture::picture_of`,
---   `picture::text_of`, `row::push_row`, `row::push_rows`; other crates.
-use Rattle.std.specs.Prelude.{◌≡◌, ℕ, ◌+◌, ◌-◌, Bool, true, false, List, [], ◌∷◌, ◌++◌, codes, decimal, drop, length}
-use Rattle.std.specs.Prelude.{max, min, if◌then◌else◌}
+--   `picture::text_of`, `row::push_row`, `row::push_rows`, `row::row_text`; other crates.
+use Rattle.std.specs.Prelude.{◌≡◌, ℕ, ◌+◌, ◌-◌, ◌*◌, Bool, true, false, List, [], ◌∷◌, ◌++◌, codes, decimal, drop}
+use Rattle.std.specs.Prelude.{length, max, min, if◌then◌else◌}
 use Rattle.kt_tuple.specs.declared.node.NodeId.{NodeId}
 use Rattle.kt_history.specs.declared.note.Note.{Note}
 use Rattle.kt_trace.specs.declared.traced.TracedStep.{TracedStep}
 use Rattle.kt_story.specs.declared.mark.Mark.{Mark}
 use Rattle.kt_story.specs.declared.mark.Mark.TheVariants as marks
+use Rattle.kt_story.specs.Blames.{IsReason}
 use Rattle.kt_story.specs.Marks.{mark_of}
+use Rattle.kt_story.specs.Said.{said_text}
 use Rattle.kt_story.specs.Story.{StoryModel, act_is_lost, act_survives}
-use Rattle.kt_draw.specs.declared.plane.TheConstants.{NUMBERS}
+use Rattle.kt_draw.specs.declared.plane.TheConstants.{GAP, NUMBERS}
+use Rattle.kt_draw.specs.declared.sheet.TheConstants.{ICON}
 use Rattle.kt_draw.specs.declared.element.Point.{Point}
 use Rattle.kt_draw.specs.declared.picture.Form.{Form}
 use Rattle.kt_draw.specs.declared.picture.Form.TheVariants as forms
 use Rattle.kt_draw.specs.declared.sheet.Sheet.{Sheet}
 use Rattle.kt_draw.specs.Elements.{label_text, struck_text, use_text}
-use Rattle.kt_draw.specs.Places.{column, row_y}
+use Rattle.kt_draw.specs.Places.{column, pitch, row_y}
 
 -- the name of the mark's symbol: each mark has one of its own
 abbrev pub symbol_of : Mark → List ℕ
@@ -94,17 +97,29 @@ abbrev pub words_text : List ℕ → Point → (said reason : List ℕ) → List
 words_text classes at said [] = label_text classes at said
 words_text classes at said (c ∷ reason) = struck_text at said (c ∷ reason)
 
--- what stands behind the begin of a row: its mark once more, where that says what matters, and one text, of which
--- something is struck through just where the row's act is lost. Where the two stand, and which words these are, is not
--- stated
-pub record IsSaid (h : List Note) (row : TracedStep) (text : List ℕ) : Type 0 where
-  pub beside : Point
-  pub at : Point
-  pub said : List ℕ
+-- where the words of the rows begin: behind all columns
+abbrev pub text_x : Sheet → ℕ
+text_x sheet =
+    (sheet.plane.workers + sheet.plane.shards) * pitch sheet.plane.workers sheet.plane.shards + (NUMBERS + GAP + ICON)
+
+-- where the words of a row stand, and the mark beside them
+abbrev pub words_point : Sheet → TracedStep → Point
+words_point sheet row = record { x = text_x sheet; y = (row_point sheet row).y + 4 }
+
+abbrev pub beside_words : Sheet → TracedStep → Point
+beside_words sheet row = record { x = text_x sheet - 14; y = (row_point sheet row).y }
+
+-- behind the begin of a row: its mark once more, where that says what matters, and its words, with this reason
+abbrev pub row_words : Sheet → List Note → TracedStep → List ℕ → List ℕ
+row_words sheet h row reason = let mark = mark_of row (act_survives h row) in
+    again_text mark (beside_words sheet row)
+    ++ words_text (classes_of (act_is_lost h row) (is_telling mark)) (words_point sheet row) (said_text row) reason
+
+-- what stands there: the row's words, and why its act is lost
+pub record IsSaid (sheet : Sheet) (story : StoryModel) (row : TracedStep) (text : List ℕ) : Type 0 where
   pub reason : List ℕ
-  pub none : act_is_lost h row ≡ false → reason ≡ []
-  pub is : text ≡ again_text (mark_of row (act_survives h row)) beside
-      ++ words_text (classes_of (act_is_lost h row) (is_telling (mark_of row (act_survives h row)))) at said reason
+  pub why : IsReason story row reason
+  pub is : text ≡ row_words sheet story.state.history row reason
 
 -- the rows are drawn in order, each with what is said of it behind its begin
 pub data AreDrawn (begin : TracedStep → List ℕ) (says : TracedStep → List ℕ → Type 0)
@@ -126,13 +141,13 @@ abbrev pub picture_head : Form → List ℕ
 picture_head forms.Alone = codes "<svg xmlns=\"http://www.w3.org/2000/svg\""
 picture_head forms.InPage = codes "<svg"
 
--- the text begins so, and has these rows on the sheet, drawn by this history, in one piece
-pub record HasRowsOn (head : List ℕ) (sheet : Sheet) (h : List Note) (rows : List TracedStep) (text : List ℕ)
+-- the text begins so, and has these rows of the story on the sheet, in one piece
+pub record HasRowsOn (head : List ℕ) (sheet : Sheet) (story : StoryModel) (rows : List TracedStep) (text : List ℕ)
     : Type 0 where
   pub before : List ℕ
   pub drawn : List ℕ
   pub behind : List ℕ
-  pub are : AreDrawn (row_begin sheet h) (IsSaid h) rows drawn
+  pub are : AreDrawn (row_begin sheet story.state.history) (IsSaid sheet story) rows drawn
   pub is : text ≡ head ++ (before ++ (drawn ++ behind))
 
 -- the text begins so. Of the story's rows it has those from the step of this number on; the uppermost stands at the top
@@ -143,4 +158,4 @@ pub record HasRows (head : List ℕ) (story : StoryModel) (from : ℕ) (text : L
   pub shards : sheet.plane.shards ≡ story.state.scene.shards
   pub top : sheet.first ≡ first_of from story.rows
   pub room : sheet.plane.rows ≡ min (length (rows_from from story.rows)) 4294967295
-  pub rows : HasRowsOn head sheet story.state.history (rows_from from story.rows) text
+  pub rows : HasRowsOn head sheet story (rows_from from story.rows) text

@@ -176,7 +176,7 @@ fn text_of(
     form: Form,
 ) -> Result<Vec<u8>, AllocError>
     ensures { IfOk result (λ text.
-        HasRowsOn (picture_head form) drawing.now.sheet story.now.state.history rows.now text.items) }
+        HasRowsOn (picture_head form) drawing.now.sheet story.now rows.now text.items) }
 {
     let (legend, last) = legend_of(alloc, story, rows, drawing)?;
     let height = last.saturating_add(LINE);

@@ -59,7 +59,7 @@ pub(crate) fn push_rows(
     rows: &[TracedStep],
 ) -> Result<(), AllocError>
     ensures { OnOk result
-        (IsDrawnBehind (row_begin sheet story.now.state.history) (IsSaid story.now.state.history) rows.now
+        (IsDrawnBehind (row_begin sheet story.now.state.history) (IsSaid sheet story.now) rows.now
         out.old.items out.new.items) }
 {
     for row in rows {
@@ -77,7 +77,7 @@ fn push_row(
     row: &TracedStep,
 ) -> Result<(), AllocError>
     ensures { OnOk result (IsRowBehind (row_begin sheet story.now.state.history row.now)
-        (IsSaid story.now.state.history row.now) out.old.items out.new.items) }
+        (IsSaid sheet story.now row.now) out.old.items out.new.items) }
 {
     push_row_begin(out, sheet, story, row)?;
     let text = row_text(alloc, sheet, story, row)?;
@@ -106,7 +106,7 @@ fn row_text(
     story: &Story,
     row: &TracedStep,
 ) -> Result<Vec<u8>, AllocError>
-    ensures { IfOk result (λ text. IsSaid story.now.state.history row.now text.items) }
+    ensures { IfOk result (λ text. IsSaid sheet story.now row.now text.items) }
 {
     let mut out = Vec::new(alloc);
     let Point { y, .. } = sheet.point(row.node, sheet.above(row.number));

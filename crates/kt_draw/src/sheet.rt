@@ -2,7 +2,7 @@
 //! Cited by band.rt, legend.rt, life.rt, picture.rt, row.rt, way.rt.
 
 ghost use Rattle.std.specs.Prelude.{◌≡◌, ◌≤◌, ◌^◌};
-ghost use Rattle.kt_draw.specs.Rows.{above, point};
+ghost use Rattle.kt_draw.specs.Rows.{above, point, text_x};
 
 use crate::element::Point;
 use crate::plane::{BAND, GAP, NUMBERS, Plane, ROW, TITLE};
@@ -65,11 +65,11 @@ impl Sheet {
     }
 
     /// Where the texts of the rows begin.
-    pub fn text_x(self) -> u64 {
+    pub fn text_x(self) -> u64
+        ensures { result ≡ text_x self }
+    {
         let nodes = u64::from(self.plane.workers) + u64::from(self.plane.shards);
-        nodes
-            .saturating_mul(self.plane.pitch())
-            .saturating_add(NUMBERS + GAP + ICON)
+        nodes * self.plane.pitch() + (NUMBERS + GAP + ICON)
     }
 
     /// The width of the sheet: a multiple of 16.

@@ -1,5 +1,5 @@
 -- What one more note changes of the cuts that lost the acts.
--- Cited by Kept, `laws::a_lost_service_was_lost_by_one_cut`.
+-- Cited by Kept, `laws::a_lost_service_was_lost_by_one_cut`; other crates.
 use Rattle.std.proofs.Common.{◌≡◌, ◌≢◌, ℕ, suc, ◌-◌, ◌<◌, ◌≤◌, min, List, [], ◌∷◌, ◌++◌, length}
 use Rattle.std.proofs.Common.{Some, refl, sym, ◌∙◌, subst, ◌⊎◌, inl, inr, arith, Contains}
 use Rattle.std.proofs.lemmas.List.{length_push}

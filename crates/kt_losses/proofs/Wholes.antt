@@ -1,5 +1,6 @@
 -- When the past of an act was whole, and that one cut broke it.
--- Cited by Rising, Steps, `laws::a_cut_loses_what_survived_until_it`, `laws::a_lost_service_was_lost_by_one_cut`.
+-- Cited by Rising, Steps, `laws::a_cut_loses_what_survived_until_it`, `laws::a_lost_service_was_lost_by_one_cut`;
+--   other crates.
 use Rattle.std.proofs.Common.{◌≡◌, ℕ, zero, suc, ◌-◌, ◌<◌, ◌≤◌, List, [], ◌∷◌, ◌++◌, take, drop, length}
 use Rattle.std.proofs.Common.{refl, sym, ap, ◌∙◌, subst, ◌⊎◌, inl, inr, arith}
 use Rattle.std.proofs.lemmas.List.{take_all, take-append-drop, take-append-le, length-take-le}

@@ -1,6 +1,6 @@
 -- Which cut lost an act: the first with which a part of its past was lost (Koo and Toueg, "Checkpointing and
 -- Rollback-Recovery for Distributed Systems": what a rollback undoes).
--- Cited by Found, Rising, Steps, Wholes, laws.rt, loss.rt, specs/auxiliary/Blame.
+-- Cited by Found, Rising, Steps, Wholes, laws.rt, loss.rt, specs/auxiliary/Blame; other crates.
 use Rattle.std.specs.Prelude.{◌≡◌, ◌≤◌, ◌-◌, ℕ, IsTrue, List, Some, map, take, Contains}
 use Rattle.kt_tuple.specs.declared.node.NodeId.{NodeId}
 use Rattle.kt_history.specs.declared.note.Note.{Note}

@@ -5,7 +5,7 @@ use Rattle.kt_trace.specs.declared.traced.Refused.{Refused}
 use Rattle.kt_trace.specs.declared.traced.Traced.{Traced}
 use Rattle.kt_trace.specs.declared.traced.Traced.TheVariants as entries
 use Rattle.kt_trace.specs.declared.traced.TracedStep.{TracedStep}
-use Rattle.kt_story.specs.Story.{last_refused, made_row, made_rows}
+use Rattle.kt_story.specs.Story.{last_refused, made_rows}
 
 rows-more : (xs : List Traced) (x : Traced) → made_rows (xs ++ x ∷ []) ≡ made_rows xs ++ made_rows (x ∷ [])
 rows-more [] x = refl

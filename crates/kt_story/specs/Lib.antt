@@ -1,4 +1,6 @@
 pub mod Story
 pub mod Marks
 pub mod Said
+pub mod Blames
+pub mod Messages
 pub mod auxiliary

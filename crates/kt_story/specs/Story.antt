@@ -1,11 +1,11 @@
 -- What happened in a scene: the rows of its trace, the state behind them, and which acts of it survive.
--- Cited by Splitting, Telling, story.rt, words.rt, `story::split`; other crates.
-use Rattle.std.specs.Prelude.{◌≡◌, ℕ, Bool, true, false, not, ◌&&◌, List, [], ◌∷◌, Option, None, Some}
+-- Cited by Arriving, Blaming, Covering, Deciding, Splitting, Telling, laws.rt, specs/Blames, specs/Messages,
+--   specs/auxiliary/Waiting, story.rt, `Story::blame`, `story::split`; other crates.
+use Rattle.std.specs.Prelude.{◌≡◌, Bool, true, false, not, ◌&&◌, List, [], ◌∷◌, Option, None, Some}
 use Rattle.std.specs.List.{filter_map}
 use Rattle.kt_history.specs.declared.note.Note.{Note}
 use Rattle.kt_history.specs.declared.note.Note.TheVariants as notes
 use Rattle.kt_history.specs.Survival.{survives}
-use Rattle.kt_losses.specs.declared.loss.Loss.{Loss}
 use Rattle.kt_scenario.specs.declared.step.Step.{Step}
 use Rattle.kt_model.specs.State.{State}
 use Rattle.kt_trace.specs.declared.traced.Refused.{Refused}
@@ -19,7 +19,6 @@ pub record StoryModel : Type 0 where
   pub state : State
   pub rows : List TracedStep
   pub refused : Option Refused
-  pub losses : List Loss
 
 abbrev pub made_row : Traced → Option TracedStep
 made_row (entries.Made row) = Some row

@@ -3,7 +3,8 @@
 //!
 //! - Contract: the rows are those of the trace, each step once and in order (`Story::of`, clause `told`). A service is
 //!   marked as one that survives just where the history behind the last step says so (`Story::mark`, clauses `mark` and
-//!   `survives`).
+//!   `survives`). The step that is named as the cause of a loss made the cut that lost the service (`Story::blame`).
+//!   Each message came by the delivery that has as many before it on its link (`arrows`).
 //! - Stands on: kt_tuple, kt_link, kt_history, kt_losses, kt_scenario, kt_store, kt_state, kt_model, kt_core, kt_trace,
 //!   kt_tell
 //! - Begin in: `story.rt`, then `mark.rt` for what marks a step, `arrow.rt` for messages, and `words.rt` for what is
@@ -11,11 +12,13 @@
 #![tactic(auto)]
 
 mod arrow;
+mod laws;
 mod mark;
 mod story;
 mod words;
 
 pub use arrow::{Arrow, Kind, arrows};
+pub use laws::each_lost_service_has_a_step_to_blame;
 pub use mark::{Mark, mark_of};
 pub use story::{Blame, Story};
 pub use words::{ARROW, Words, push_count, push_got, push_reason, push_service, words_of};

@@ -1,11 +1,18 @@
 //! What happened in a scene: its rows, the world behind them, and what was lost.
 //! Cited by arrow.rt, words.rt; other crates.
 
-ghost use Rattle.std.specs.Prelude.{◌≡◌, ◌++◌, ◌∷◌, [], IfOk, IsTrue, None, OnOk, length};
+ghost use Rattle.std.specs.Prelude.{◌≡◌, ◌==◌, ◌++◌, ◌∷◌, [], IfOk, IsTrue, None, OnOk, Some, is_some, length};
+ghost use Rattle.std.specs.List.{find};
+ghost use Rattle.std.specs.Option.{option_copied};
+ghost use Rattle.kt_history.specs.Log.{note_at};
 ghost use Rattle.kt_history.specs.Survival.{survives};
 ghost use Rattle.kt_model.specs.Reached.{opening};
+ghost use Rattle.kt_story.specs.Blames.{IsBlamed};
 ghost use Rattle.kt_story.specs.Marks.{mark_of};
-ghost use Rattle.kt_story.specs.Story.{IsStoryOf, act_is_lost, act_survives, last_refused, made_rows};
+ghost use Rattle.kt_story.specs.Messages.{act_lost_at};
+ghost use Rattle.kt_story.specs.Story.{IsStoryOf, act_is_lost, act_survives, is_act, last_refused};
+ghost use Rattle.kt_story.specs.Story.{made_rows};
+ghost use Rattle.kt_story.specs.auxiliary.Finding.{blame_by, is_of, makes};
 ghost use Rattle.kt_story.specs.declared.mark.Mark.TheVariants as marks;
 
 use crate::mark::{Mark, mark_of};
@@ -40,6 +47,7 @@ pub struct Blame {
 
 impl Model for Story {
     ghost use Rattle.kt_story.specs.Story.{StoryModel};
+    ghost use Rattle.kt_story.specs.auxiliary.Finding.{AreLosses};
 
     ghost Value = { StoryModel };
 
@@ -47,8 +55,9 @@ impl Model for Story {
       state = s.world.state;
       rows = s.rows.items;
       refused = s.refused;
-      losses = s.losses.items;
     } };
+
+    ghost invariant = { λ s. AreLosses s.world.state.history s.losses.items };
 }
 
 impl Story {
@@ -99,7 +108,9 @@ impl Story {
     }
 
     /// The world behind the last step.
-    pub fn world(&self) -> &World<MemStore> {
+    pub fn world(&self) -> &World<MemStore>
+        ensures { result.now.state ≡ self.now.state }
+    {
         &self.world
     }
 
@@ -139,30 +150,59 @@ impl Story {
         mark_of(row, self.survives(row))
     }
 
-    /// Whether the act of this number does not survive; not so where the number names none.
-    pub fn is_act_lost(&self, number: u64) -> bool {
-        let history = self.world.history();
-        history.is_act(number) && !history.survives(number)
+    /// Whether the number names an act that does not survive.
+    pub fn is_act_lost(&self, number: u64) -> bool
+        ensures { result ≡ act_lost_at self.now.state.history number }
+    {
+        is_act_at(self.world.history(), number) && !lasts(self.world.history(), number)
     }
 
-    /// What lost the row's service; `None` where it survives, or the row has none.
-    pub fn blame(&self, row: &TracedStep) -> Option<Blame> {
-        row.note.as_ref()?;
-        let loss = self.losses.iter().find(|loss| loss.service == row.notes)?;
-        let cut = self.row_of(loss.cut)?;
-        Some(Blame {
-            node: cut.node,
-            failed: matches!(cut.step, Step::Fail { .. }),
-            step: cut.number,
-        })
+    /// What lost the row's service; `None` where it survives, or the row has none, or no row made the cut.
+    pub fn blame(&self, row: &TracedStep) -> Option<Blame>
+        ensures right { (blame : Blame) → result ≡ Some blame → IsBlamed self.now row.now blame }
+        ensures found { (blame : Blame) → IsBlamed self.now row.now blame → IsTrue (is_some result) }
+    {
+        if self.is_lost(row) {
+            blame_by(&self.rows, &self.losses, row.notes)
+        } else {
+            None
+        }
     }
+}
 
-    /// The row that made the event of this number.
-    fn row_of(&self, number: u64) -> Option<&TracedStep> {
-        self.rows
-            .iter()
-            .find(|row| row.notes == number && row.note.is_some())
-    }
+/// The step that made the cut of the service of this number.
+fn blame_by(rows: &[TracedStep], losses: &[Loss], number: u64) -> Option<Blame>
+    ensures { result ≡ blame_by rows.now losses.now number }
+{
+    let loss = loss_of(losses, number)?;
+    let cut = row_of(rows, loss.cut)?;
+    Some(Blame {
+        node: cut.node,
+        failed: matches!(cut.step, Step::Fail { .. }),
+        step: cut.number,
+    })
+}
+
+/// The loss of the service of this number.
+fn loss_of(losses: &[Loss], number: u64) -> Option<&Loss>
+    ensures { option_copied result ≡ find (is_of number) losses.now }
+{
+    losses.iter().find(|loss| loss.service == number)
+}
+
+/// The row that made the event of this number.
+fn row_of(rows: &[TracedStep], number: u64) -> Option<&TracedStep>
+    ensures { option_copied result ≡ find (makes number) rows.now }
+{
+    rows.iter()
+        .find(|row| row.notes == number && row.note.is_some())
+}
+
+/// Whether the number names an act.
+fn is_act_at(history: &History, number: u64) -> bool
+    ensures { result ≡ is_act (note_at history.now.notes number) }
+{
+    history.is_act(number)
 }
 
 /// Whether nothing in the past of the act of this number is lost.

@@ -1,11 +1,12 @@
 //! What is said of a row, of a service, and of why it is lost.
 //! Cited by other crates.
 
-ghost use Rattle.std.specs.Prelude.{◌≡◌, ◌++◌, ◌∷◌, [], ℕ, List, false, length, IfOk, OnOk};
-ghost use Rattle.kt_story.specs.Said.{count_text, got_text, how_text, reason_text, service_text};
-ghost use Rattle.kt_story.specs.Said.{shortened, told_text};
-ghost use Rattle.kt_story.specs.Story.{act_is_lost};
-ghost use Rattle.kt_story.specs.auxiliary.Saved.{saved_text};
+ghost use Rattle.std.specs.Prelude.{◌≡◌, ◌+◌, ◌++◌, ◌∷◌, [], ℕ, List, codes, length, IfOk, OnOk};
+ghost use Rattle.std.specs.List.{flat_map};
+ghost use Rattle.kt_story.specs.Blames.{IsReason};
+ghost use Rattle.kt_story.specs.Said.{brief_text, count_text, gone_back_text, got_text, how_text, other_text};
+ghost use Rattle.kt_story.specs.Said.{reason_text, request_text, said_text, saved_text, served_text, service_text};
+ghost use Rattle.kt_story.specs.Said.{shortened, told_brief, told_text, vote_text};
 
 use crate::story::{Blame, Story};
 use kt_core::Step;
@@ -38,57 +39,69 @@ pub struct Words {
 
 impl Words {
     /// How many characters they are.
-    pub fn count(&self) -> u64 {
-        (self.said.len() as u64).saturating_add(self.reason.len() as u64)
+    pub fn count(&self) -> u64
+        ensures { result ≡ length self.now.said.items + length self.now.reason.items }
+    {
+        self.said.len() as u64 + self.reason.len() as u64
     }
 }
 
 /// What is said of the row: of a service its request and its answer; of all else the words of the trace, without what
 /// the picture shows. A text that is too long ends in three dots. There is a reason only where an act is lost.
 pub fn words_of(alloc: Global, story: &Story, row: &TracedStep) -> Result<Words, AllocError>
-    ensures reason { IfOk result (λ words.
-        act_is_lost story.now.state.history row.now ≡ false → words.reason.items ≡ []) }
+    ensures said { IfOk result (λ words. words.said.items ≡ said_text row.now) }
+    ensures reason { IfOk result (λ words. IsReason story.now row.now words.reason.items) }
 {
     let reason = reason_of(alloc, story, row)?;
     let mut said = Vec::new(alloc);
-    match served(row) {
-        Some((act, answer)) => {
-            push_request(&mut said, act)?;
-            push_service(&mut said, &act.op, answer, MOST_OP)?;
-        }
-        None => push_other(&mut said, row)?,
-    }
+    push_said(&mut said, row)?;
     Ok(Words { said, reason })
 }
 
-/// Why the row's service is lost, behind a comma; nothing where no act is lost.
+/// Why the row's service is lost, behind a comma; nothing where no step is to blame.
 fn reason_of(alloc: Global, story: &Story, row: &TracedStep) -> Result<Vec<u8>, AllocError>
-    ensures { IfOk result (λ reason.
-        act_is_lost story.now.state.history row.now ≡ false → reason.items ≡ []) }
+    ensures { IfOk result (λ reason. IsReason story.now row.now reason.items) }
+{
+    match story.blame(row) {
+        Some(blame) => reason_by(alloc, blame),
+        None => Ok(Vec::new(alloc)),
+    }
+}
+
+fn reason_by(alloc: Global, blame: Blame) -> Result<Vec<u8>, AllocError>
+    ensures { IfOk result (λ reason. reason.items ≡ codes ", " ++ reason_text blame) }
 {
     let mut reason = Vec::new(alloc);
-    if story.is_lost(row) {
-        if let Some(blame) = story.blame(row) {
-            reason.extend_from_slice(b", ")?;
-            push_reason(&mut reason, blame)?;
-        }
-    }
+    reason.extend_from_slice(b", ")?;
+    push_reason(&mut reason, blame)?;
     Ok(reason)
 }
 
-/// The service that the row made, and its answer.
-fn served(row: &TracedStep) -> Option<(&Act, &Answer)> {
+/// What is said of the row.
+fn push_said(out: &mut Vec<u8>, row: &TracedStep) -> Result<(), AllocError>
+    ensures { OnOk result (out.new.items ≡ out.old.items ++ said_text row.now) }
+{
     match &row.note {
         Some(Note::Act(act)) => match &act.what {
-            What::Served(answer) => Some((act, answer)),
-            _ => None,
+            What::Served(answer) => push_served(out, act, answer),
+            _ => push_other(out, row),
         },
-        _ => None,
+        Some(Note::Cut { .. }) | None => push_other(out, row),
     }
 }
 
+/// A service: which request it answered, what was asked, and what was got.
+fn push_served(out: &mut Vec<u8>, act: &Act, answer: &Answer) -> Result<(), AllocError>
+    ensures { OnOk result (out.new.items ≡ out.old.items ++ served_text act.now answer.now) }
+{
+    push_request(out, act)?;
+    push_service(out, &act.op, answer, MOST_OP)
+}
+
 /// Which request it is, and a space: `w1.3 `.
-fn push_request(out: &mut Vec<u8>, act: &Act) -> Result<(), AllocError> {
+fn push_request(out: &mut Vec<u8>, act: &Act) -> Result<(), AllocError>
+    ensures { OnOk result (out.new.items ≡ out.old.items ++ request_text act.now) }
+{
     NodeId::Worker(act.worker).write_to(out)?;
     out.push(b'.')?;
     push_number(out, act.number)?;
@@ -196,20 +209,34 @@ pub fn push_count(out: &mut Vec<u8>, count: u64, word: &[u8]) -> Result<(), Allo
 }
 
 /// What is said of a row that is no service.
-fn push_other(out: &mut Vec<u8>, row: &TracedStep) -> Result<(), AllocError> {
-    match (row.saving, &row.note) {
-        (Some(saving), _) => push_saved(out, row.node, saving),
-        (None, Some(Note::Cut { .. })) if !matches!(row.step, Step::Fail { .. }) => {
-            row.node.write_to(out)?;
-            out.extend_from_slice(b" goes back to its checkpoint")?;
-            push_undone(out, row.note.as_ref(), row.undone)
-        }
-        _ => {
-            let start = out.len();
-            push_trace(out, row)?;
-            shorten(out, start, MOST_TEXT)
-        }
+fn push_other(out: &mut Vec<u8>, row: &TracedStep) -> Result<(), AllocError>
+    ensures { OnOk result (out.new.items ≡ out.old.items ++ other_text row.now row.now.saving) }
+{
+    if let Some(saving) = row.saving {
+        return push_saved(out, row.node, saving);
     }
+    match &row.note {
+        Some(Note::Cut { .. }) if !matches!(row.step, Step::Fail { .. }) => push_back(out, row),
+        _ => push_brief(out, row),
+    }
+}
+
+/// That the node goes back to its checkpoint.
+fn push_back(out: &mut Vec<u8>, row: &TracedStep) -> Result<(), AllocError>
+    ensures { OnOk result (out.new.items ≡ out.old.items ++ gone_back_text row.now) }
+{
+    row.node.write_to(out)?;
+    out.extend_from_slice(b" goes back to its checkpoint")?;
+    push_undone(out, row.note.as_ref(), row.undone)
+}
+
+/// What the trace says of the row, without what the picture shows, in as many characters as a row has.
+fn push_brief(out: &mut Vec<u8>, row: &TracedStep) -> Result<(), AllocError>
+    ensures { OnOk result (out.new.items ≡ out.old.items ++ told_brief row.now) }
+{
+    let start = out.len();
+    push_trace(out, row)?;
+    shorten(out, start, MOST_TEXT)
 }
 
 /// What became of the node's tentative checkpoint.
@@ -234,16 +261,33 @@ fn push_saved(out: &mut Vec<u8>, node: NodeId, saving: Saving) -> Result<(), All
 }
 
 /// The words of the trace, without what the picture shows: modes, and whom something is asked or told.
-fn push_trace(out: &mut Vec<u8>, row: &TracedStep) -> Result<(), AllocError> {
+fn push_trace(out: &mut Vec<u8>, row: &TracedStep) -> Result<(), AllocError>
+    ensures { OnOk result (out.new.items ≡ out.old.items ++ brief_text row.now) }
+{
     push_head(out, row)?;
     push_begun(out, row.begun)?;
     push_ruling(out, row.ruling)?;
-    for (to, message) in row.sent.messages() {
-        if matches!(message, Message::Vote(_)) {
-            push_one(out, *to, message)?;
-        }
-    }
+    push_votes(out, row.sent.messages())?;
     push_undone(out, row.note.as_ref(), row.undone)
+}
+
+/// How the node votes.
+fn push_votes(out: &mut Vec<u8>, sent: &[(NodeId, Message)]) -> Result<(), AllocError>
+    ensures { OnOk result (out.new.items ≡ out.old.items ++ flat_map vote_text sent.now) }
+{
+    for (to, message) in sent {
+        push_vote(out, *to, message)?;
+    }
+    Ok(())
+}
+
+fn push_vote(out: &mut Vec<u8>, to: NodeId, message: &Message) -> Result<(), AllocError>
+    ensures { OnOk result (out.new.items ≡ out.old.items ++ vote_text (to, message.now)) }
+{
+    match message {
+        Message::Vote(_) => push_one(out, to, message),
+        _ => Ok(()),
+    }
 }
 
 /// Cuts what stands behind the first so many bytes down to the most characters, the last three of which are dots then.

@@ -15,7 +15,7 @@ returns c =
         shards = c.in_ok-sheet.ensures.shards;
         top = c.in_ok-sheet.ensures.first ∙ first;
         room = c.in_ok-sheet.ensures.rows ∙ ap (λ (rows : List TracedStep). min (length rows) 4294967295) c.rows_from-rows.ensures;
-        rows = subst (λ (rows : List TracedStep). HasRowsOn (picture_head c.args.form) c.in_ok-sheet.sheet c.args.story.now.state.history
+        rows = subst (λ (rows : List TracedStep). HasRowsOn (picture_head c.args.form) c.in_ok-sheet.sheet c.args.story.now
             rows c.in_ok-text.text.items) c.rows_from-rows.ensures c.in_ok-text.ensures;
       };
     }

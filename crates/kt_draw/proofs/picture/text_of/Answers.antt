@@ -5,7 +5,7 @@ use Rattle.kt_draw.proofs.picture.text_of.Goals as goal
 
 pub returns : goal.returns
 returns c =
-    has_rows (picture_head c.args.form) c.args.drawing.now.sheet c.args.story.now.state.history c.args.rows.now c.deref-2.result.now
+    has_rows (picture_head c.args.form) c.args.drawing.now.sheet c.args.story.now c.args.rows.now c.deref-2.result.now
     c.extend_from_slice-2.new.self.items c.push_rows.new.out.items c.deref-3.result.now c.extend_from_slice-3.new.self.items
     (c.in_ok-extend_from_slice-2.ensures.items
     ∙ ap (λ (t : List ℕ). t ++ c.deref-2.result.now) (c.in_ok-extend_from_slice.ensures.items

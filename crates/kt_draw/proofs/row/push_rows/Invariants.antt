@@ -5,5 +5,5 @@ use Rattle.kt_draw.proofs.row.push_rows.Given as goal
 
 abbrev pub invariant-loop-row : goal.invariant-loop-row
 invariant-loop-row l =
-    IsDrawnBehind (row_begin l.sheet l.story.state.history) (IsSaid l.story.state.history) (take l.row-index l.rows) l.initial.out.items
+    IsDrawnBehind (row_begin l.sheet l.story.state.history) (IsSaid l.sheet l.story) (take l.row-index l.rows) l.initial.out.items
     l.out.items
