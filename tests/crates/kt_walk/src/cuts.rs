@@ -6,19 +6,23 @@ use crate::numbers::Numbers;
 use crate::runs::{are_same, space_after};
 use crate::slowly::{Pasts, front_of, line_after, services};
 use kt_history::Note;
-use kt_store::{CkptStore, MemStore, StoreError, Verdict};
+use kt_store::{MemStore, Verdict};
 use kt_tuple::{NodeId, Tuple};
 use std::alloc::{AllocError, Global};
 
 /// How many acts the node's permanent checkpoint holds, a tentative one counting from its Yes on.
-fn acts_held(alloc: Global, store: &mut MemStore, node: NodeId) -> Result<u64, StoreError> {
-    if let Some(tentative) = store.tentative_header(alloc, node)? {
-        if store.verdict(tentative.instance)? == Some(Verdict::Yes) {
-            return Ok(tentative.header.line_len());
+fn acts_held(alloc: Global, store: &MemStore, node: NodeId) -> Result<u64, AllocError> {
+    let Some(row) = store.rows().iter().find(|row| row.node == node) else {
+        return Ok(0);
+    };
+    if let Some(tentative) = &row.tentative {
+        let instance = store.board().iter().find(|it| it.instance == tentative.instance);
+        if matches!(instance, Some(it) if it.verdict == Verdict::Yes) {
+            return Ok(tentative.checkpoint.header(alloc)?.line_len());
         }
     }
-    Ok(match store.permanent_header(alloc, node)? {
-        Some(header) => header.line_len(),
+    Ok(match &row.permanent {
+        Some(permanent) => permanent.header(alloc)?.line_len(),
         None => 0,
     })
 }
@@ -26,7 +30,7 @@ fn acts_held(alloc: Global, store: &mut MemStore, node: NodeId) -> Result<u64, S
 /// Those of the node's acts that its permanent checkpoint holds.
 fn front_held(
     alloc: Global,
-    store: &mut MemStore,
+    store: &MemStore,
     notes: &[Note],
     node: NodeId,
 ) -> Result<Numbers, Finding> {
@@ -39,7 +43,7 @@ fn front_held(
 /// The acts that the permanent checkpoints hold.
 fn cut_of(
     alloc: Global,
-    store: &mut MemStore,
+    store: &MemStore,
     notes: &[Note],
     size: SceneSize,
 ) -> Result<Numbers, Finding> {
@@ -61,7 +65,7 @@ fn part(alloc: Global, notes: &[Note], cut: Numbers) -> Result<Vec<usize>, Alloc
 /// tuples are just that run's.
 pub fn agrees(
     alloc: Global,
-    store: &mut MemStore,
+    store: &MemStore,
     tuples: &[Tuple],
     notes: &[Note],
     size: SceneSize,

@@ -2,7 +2,7 @@
 
 use kt_core::Step;
 use kt_history::{Note, What};
-use kt_store::{CkptStore, MemStore, StoreError, Verdict};
+use kt_store::{MemStore, Verdict};
 
 /// How much work walks did.
 #[derive(Clone, Copy, Debug)]
@@ -155,12 +155,6 @@ pub(crate) fn note_number(note: &Note) -> usize {
 }
 
 /// How many of the instances that were begun are open.
-pub(crate) fn count_open(store: &mut MemStore, begun: usize) -> Result<u64, StoreError> {
-    let mut open = 0u64;
-    for instance in 1..=begun as u64 {
-        if store.verdict(instance)? == Some(Verdict::Open) {
-            add_one(&mut open);
-        }
-    }
-    Ok(open)
+pub(crate) fn count_open(store: &MemStore) -> usize {
+    store.board().iter().filter(|row| row.verdict == Verdict::Open).count()
 }

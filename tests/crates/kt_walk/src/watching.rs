@@ -12,7 +12,7 @@ use crate::slowly::Pasts;
 use crate::tally::{Tally, add_one, count, count_open, note_number, step_number};
 use kt_core::{Scene, Step, StepError, World};
 use kt_history::Note;
-use kt_store::{CkptStore, MemStore, StoreError};
+use kt_store::MemStore;
 use kt_tuple::Tuple;
 use std::alloc::Global;
 
@@ -100,9 +100,9 @@ impl Watched {
     pub fn go(&mut self, alloc: Global, step: Step, tally: &mut Tally) -> Result<bool, Finding> {
         let is_made = self.try_step(alloc, step, tally)?;
         if is_made {
-            let mut store = self.compared(alloc, tally)?;
+            self.check(alloc, tally)?;
             let is_new = matches!(step, Step::Check { .. } | Step::Restart { .. });
-            if is_new && count_open(&mut store, self.begun.len())? > 1 {
+            if is_new && count_open(self.world.store()) > 1 {
                 add_one(&mut tally.overlapping);
             }
         }
@@ -143,15 +143,8 @@ impl Watched {
         Ok(())
     }
 
-    /// What must hold of the world as it is.
+    /// What must hold of the world as it is, and of what its store holds: the permanent checkpoints agree.
     pub fn check(&mut self, alloc: Global, tally: &mut Tally) -> Result<(), Finding> {
-        self.compared(alloc, tally)?;
-        Ok(())
-    }
-
-    /// The same, and what the store holds. That is seen in a world in which the same steps are made anew, as a world
-    /// lends no store.
-    fn compared(&mut self, alloc: Global, tally: &mut Tally) -> Result<MemStore, Finding> {
         let notes = self.world.history().notes();
         note_new(alloc, notes, self.pasts.noted(), tally)?;
         self.pasts.go_on(alloc, notes)?;
@@ -164,43 +157,39 @@ impl Watched {
                 add_one(&mut tally.steady_with_lost);
             }
         }
-        let mut store = self.stored(alloc, &self.made)?;
-        holds(
-            store.next_instance()? == self.begun.len() as u64 + 1,
-            "what was begun",
-        )?;
-        Ok(store)
+        let permanent = self.world.permanent_space(alloc)?;
+        self.is_permanent(alloc, self.world.store(), &permanent)
     }
 
-    /// What the store holds after these steps, which lead to where the world is: the permanent checkpoints agree.
-    fn stored(&self, alloc: Global, steps: &[Step]) -> Result<MemStore, Finding> {
-        let scene = copy_of(alloc, self.world.scene())?;
-        let mut again = opened(alloc, scene)?;
-        if !are_tried(alloc, &mut again, steps) {
-            return Err(Finding::OutOfMemory);
-        }
-        let is_same = again.history().notes() == self.world.history().notes();
-        let permanent = again.permanent_space(alloc);
-        let mut store = again.into_store();
-        holds(is_same, "the same once more")?;
-        self.is_permanent(alloc, &mut store, &permanent?)?;
-        Ok(store)
-    }
-
+    /// The permanent checkpoints in this store agree, and its board has what was begun.
     fn is_permanent(
         &self,
         alloc: Global,
-        store: &mut MemStore,
+        store: &MemStore,
         tuples: &[Tuple],
     ) -> Result<(), Finding> {
+        holds(store.board().len() == self.begun.len(), "what was begun")?;
         let notes = self.world.history().notes();
         cuts::agrees(alloc, store, tuples, notes, self.size, &self.pasts)
     }
 
-    /// Counts how the instances and the services ended. Here the refused steps are tried once more too.
+    /// The same steps lead there once more: all that were tried, those that were refused too.
+    fn is_so_again(&self, alloc: Global) -> Result<(), Finding> {
+        let scene = copy_of(alloc, self.world.scene())?;
+        let mut again = opened(alloc, scene)?;
+        if !are_tried(alloc, &mut again, &self.tried) {
+            return Err(Finding::OutOfMemory);
+        }
+        let is_same = again.history().notes() == self.world.history().notes();
+        holds(is_same, "the same once more")?;
+        let permanent = again.permanent_space(alloc)?;
+        self.is_permanent(alloc, again.store(), &permanent)
+    }
+
+    /// Counts how the instances and the services ended, and makes all steps once more.
     pub fn end(&self, alloc: Global, tally: &mut Tally) -> Result<(), Finding> {
-        let mut store = self.stored(alloc, &self.tried)?;
-        count_instances(&mut store, &self.begun, tally)?;
+        self.is_so_again(alloc)?;
+        count_instances(self.world.store(), &self.begun, tally);
         let survivors = agrees(alloc, &self.world, &self.pasts)? as u64;
         tally.survivors = tally.survivors.saturating_add(survivors);
         tally.lost = tally.lost.saturating_add(self.world.history().lost_count());
@@ -218,16 +207,10 @@ fn are_tried(alloc: Global, world: &mut Game, steps: &[Step]) -> bool {
     was_there
 }
 
-fn count_instances(
-    store: &mut MemStore,
-    begun: &[bool],
-    tally: &mut Tally,
-) -> Result<(), StoreError> {
-    for (place, is_check) in begun.iter().enumerate() {
-        let verdict = store.verdict(place as u64 + 1)?;
-        tally.add_instance(*is_check, verdict);
+fn count_instances(store: &MemStore, begun: &[bool], tally: &mut Tally) {
+    for (row, is_check) in store.board().iter().zip(begun) {
+        tally.add_instance(*is_check, Some(row.verdict));
     }
-    Ok(())
 }
 
 /// Counts the refusal, which is one of the step alone.
