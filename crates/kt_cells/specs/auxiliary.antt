@@ -1,2 +1,0 @@
--- What the code alone keeps, and no public clause cites.
-pub mod Found

@@ -1,6 +1,0 @@
-pub mod Statuses
-pub mod Carryings
-pub mod Printings
-pub mod Checkings
-pub mod Completions
-pub mod Quiet

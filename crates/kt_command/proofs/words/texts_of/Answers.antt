@@ -1,8 +1,0 @@
-use Rattle.std.proofs.Common.{refl}
-use Rattle.std.specs.Vec.Iter.{into_iter_items}
-use Rattle.std.proofs.lemmas.Iterator.{items_from_collect}
-use Rattle.std.proofs.lemmas.Iterator.Adapters.{YieldsList-from_vec}
-use Rattle.kt_command.proofs.words.texts_of.Goals as goal
-
-pub returns : goal.returns
-returns c = items_from_collect _ c.collect.ensures.ran (YieldsList-from_vec (into_iter_items c.args.arguments) refl c.args.arguments.rest.ok.0)

@@ -1,3 +1,0 @@
-pub mod Onward
-pub mod Stops
-pub mod Answered

@@ -1,7 +1,0 @@
-use Rattle.std.proofs.Common.{◌≡◌, map}
-use Rattle.kt_core.specs.auxiliary.Rows.{row_view}
-use Rattle.kt_model.specs.Resumed.{down_rows}
-use Rattle.kt_core.proofs.opening.down_nodes.Given as goal
-
-abbrev pub invariant-loop-number : goal.invariant-loop-number
-invariant-loop-number l = map row_view l.nodes.items ≡ down_rows l.scene l.number

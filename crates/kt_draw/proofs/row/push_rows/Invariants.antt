@@ -1,9 +1,0 @@
-use Rattle.std.proofs.Common.{take}
-use Rattle.kt_draw.specs.Rows.{IsSaid, row_begin}
-use Rattle.kt_draw.specs.auxiliary.Behind.{IsDrawnBehind}
-use Rattle.kt_draw.proofs.row.push_rows.Given as goal
-
-abbrev pub invariant-loop-row : goal.invariant-loop-row
-invariant-loop-row l =
-    IsDrawnBehind (row_begin l.sheet l.story.state.history) (IsSaid l.sheet l.story) (take l.row-index l.rows) l.initial.out.items
-    l.out.items

@@ -1,5 +1,0 @@
-pub mod Escaping
-pub mod Elements
-pub mod Places
-pub mod Rows
-pub mod auxiliary

@@ -1,2 +1,0 @@
-mod Nearer
-mod Parts

@@ -1,3 +1,0 @@
-pub mod Label
-pub mod Network
-pub mod auxiliary

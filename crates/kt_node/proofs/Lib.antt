@@ -1,3 +1,0 @@
-pub mod Neighbours
-pub mod Acting
-pub mod Shared

@@ -1,4 +1,0 @@
-pub mod Said
-pub mod Replayed
-pub mod Made
-pub mod Outcomes

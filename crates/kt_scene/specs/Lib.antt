@@ -1,7 +1,0 @@
-pub mod Outside
-pub mod Stream
-pub mod Report
-pub mod Journal
-pub mod Runs
-pub mod Run
-pub mod auxiliary

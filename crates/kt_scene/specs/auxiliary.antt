@@ -1,4 +1,0 @@
--- What the code alone keeps, and no public clause cites.
-pub mod Texts
-pub mod Making
-pub mod Unbegun

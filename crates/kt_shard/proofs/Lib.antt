@@ -1,5 +1,0 @@
-pub mod Steps
-pub mod Tables
-pub mod Written
-pub mod Again
-pub mod Shared

@@ -1,9 +1,0 @@
-pub mod Limits
-pub mod Table
-pub mod Session
-pub mod Shard
-pub mod Arrival
-pub mod Service
-pub mod ShardModel
-pub mod Views
-pub mod auxiliary

@@ -1,3 +1,0 @@
-pub mod Holding
-pub mod Picking
-pub mod auxiliary

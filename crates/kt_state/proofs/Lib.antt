@@ -1,4 +1,0 @@
-pub mod Numbers
-pub mod Tables
-pub mod Sieving
-pub mod Shared

@@ -1,8 +1,0 @@
-use Rattle.std.proofs.Common.{subst, sym}
-use Rattle.std.specs.Prelude.{IsTrue}
-use Rattle.kt_store.proofs.Faulting.{below}
-use Rattle.kt_store.proofs.faulty.FaultStoreCkptStore.discard.Goals as goal
-
-pub returns-clause-lasts : goal.returns-clause-lasts
-returns-clause-lasts g c = λ never honest.
-    c.discard.ensures.lasts (below never) (subst (λ s. IsTrue (g.S.CkptStore.is_honest s)) (sym c.fails.ensures.inner) honest)

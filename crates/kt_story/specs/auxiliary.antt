@@ -1,3 +1,0 @@
--- What the code alone keeps, and no public clause cites.
-pub mod Finding
-pub mod Waiting

@@ -1,4 +1,0 @@
-pub mod Waits
-pub mod Strikes
-pub mod Remade
-pub mod auxiliary

@@ -1,4 +1,0 @@
-pub mod Firsts
-pub mod InMemory
-pub mod Told
-pub mod Behind

@@ -1,3 +1,0 @@
--- What the code alone keeps, and no public clause cites.
-pub mod Telling
-pub mod Laying

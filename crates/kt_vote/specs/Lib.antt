@@ -1,4 +1,0 @@
-pub mod Order
-pub mod Poll
-pub mod Counting
-pub mod auxiliary

@@ -1,5 +1,0 @@
-use Rattle.kt_words.specs.auxiliary.Growth.{Extends}
-use Rattle.kt_words.proofs.bash.push_names.Given as goal
-
-abbrev pub invariant-loop-place : goal.invariant-loop-place
-invariant-loop-place l = Extends l.fn.out.items l.out.items

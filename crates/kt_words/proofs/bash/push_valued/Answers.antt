@@ -1,5 +1,0 @@
-use Rattle.kt_words.proofs.Growing.{◌⊳◌, OnOk-then}
-use Rattle.kt_words.proofs.bash.push_valued.Goals as goal
-
-pub returns : goal.returns
-returns c = OnOk-then _ _ _ c.push_text-2.ensures.extends (λ last. c.loop-option.invariant ⊳ last)

@@ -1,4 +1,0 @@
-pub mod Later
-pub mod Requests
-pub mod Fits
-pub mod Shared

@@ -1,3 +1,0 @@
-pub mod WorkerModel
-pub mod After
-pub mod Parts

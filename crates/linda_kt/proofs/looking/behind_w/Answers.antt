@@ -1,9 +1,0 @@
-use Rattle.std.proofs.Common.{arith}
-use Rattle.std.proofs.lemmas.Str.Pattern.{strip_prefix_char}
-use Rattle.clap.proofs.LexerLemmas.{strip_byte-from}
-use Rattle.linda_kt.proofs.looking.behind_w.Goals as goal
-
-pub returns : goal.returns
-returns c =
-    strip_byte-from 119 c.args.text.now c.strip_prefix.result
-    (strip_prefix_char 119 c.args.text.now c.strip_prefix.result c.strip_prefix.ensures.cases (omega arith))

@@ -1,7 +1,0 @@
-pub mod Grammar
-pub mod Numbers
-pub mod Words
-pub mod Examples
-pub mod Status
-pub mod Files
-pub mod Holding

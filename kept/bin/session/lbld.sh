@@ -1,0 +1,6 @@
+#!/bin/bash
+# lbld.sh NAME FOLDER LIBS.. : builds FOLDER into /root/w/L/rlib/NAME.rlib over L, then G
+n=$1; d=$2; shift 2; G=/root/w/G/crates; M=/root/w/L/rlib; mkdir -p $M
+x=""; for l in "$@"; do p=$M/$l.rlib; [ -e $p ] || p=$G/$l/out/rlib/$l.rlib; [ -e $p ] || p=/opt/rattle/rlibs/$l.rlib; x="$x --extern $l=$p"; done
+D=""; for l in $G/*/out/rlib; do D="$D -L dependency=$l"; done
+cd $d; exec nice -n ${NICE:-2} /opt/rattle/bin/rattle ${MODE:-build} --crate-name $n src/${ROOTFILE:-lib.rt} --extern std=/opt/rattle/rlibs/std.rlib -L dependency=$M -L dependency=/opt/rattle/rlibs $D $x --antt-project /opt/rattle/rattle/logic/antt-project.json --logic-built /opt/rattle/logic_built --links "$n=${LABEL}" $([ "${MODE:-build}" = build ] && echo --jobs ${JOBS:-1} --statements -o $M/$n.rlib) $FLAGS

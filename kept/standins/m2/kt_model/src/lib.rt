@@ -1,0 +1,3 @@
+#![tactic(auto)]
+mod error;
+pub use error::StepError;

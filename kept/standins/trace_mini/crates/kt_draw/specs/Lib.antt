@@ -1,0 +1,4 @@
+pub mod Escaping
+pub mod Elements
+pub mod Places
+pub mod Rows

@@ -1,0 +1,103 @@
+//! The elements of a picture as text, each on a line of its own. Numbers are pixels.
+//! Cited by band.rt, legend.rt, life.rt, picture.rt, row.rt, sheet.rt, way.rt.
+
+ghost use Rattle.std.specs.Prelude.{◌≡◌, ◌++◌, OnOk};
+ghost use Rattle.kt_draw.specs.Elements.{box_text, label_text, line_text, number_attribute, use_text};
+
+use crate::escape::push_escaped;
+use kt_tuple::writing::push_number;
+use std::alloc::AllocError;
+
+/// A point of a picture.
+#[derive(Clone, Copy, Debug, PartialEq, Eq)]
+pub struct Point {
+    /// From the left edge.
+    pub x: u64,
+    /// From the upper edge.
+    pub y: u64,
+}
+
+/// Puts an attribute with a number behind the text: a space, its name, and its value in quotes.
+fn push_attribute(out: &mut Vec<u8>, name: &[u8], number: u64) -> Result<(), AllocError>
+    ensures { OnOk result (out.new.items ≡ out.old.items ++ number_attribute name.now number) }
+{
+    out.push(b' ')?;
+    out.extend_from_slice(name)?;
+    out.extend_from_slice(b"=\"")?;
+    push_number(out, number)?;
+    out.push(b'"')?;
+    Ok(())
+}
+
+/// Puts a text of these classes that begins at the point, or stands there as the classes say. The text is escaped.
+pub fn push_label(
+    out: &mut Vec<u8>,
+    classes: &[u8],
+    at: Point,
+    text: &[u8],
+) -> Result<(), AllocError>
+    ensures { OnOk result (out.new.items ≡ out.old.items ++ label_text classes.now at text.now) }
+{
+    out.extend_from_slice(b"<text class=\"")?;
+    out.extend_from_slice(classes)?;
+    out.push(b'"')?;
+    push_attribute(out, b"x", at.x)?;
+    push_attribute(out, b"y", at.y)?;
+    out.push(b'>')?;
+    push_escaped(out, text)?;
+    out.extend_from_slice(b"</text>\n")
+}
+
+/// Puts the symbol of this name, with its middle at the point.
+pub fn push_use(out: &mut Vec<u8>, name: &[u8], at: Point) -> Result<(), AllocError>
+    ensures { OnOk result (out.new.items ≡ out.old.items ++ use_text name.now at) }
+{
+    out.extend_from_slice(b"<use href=\"#")?;
+    out.extend_from_slice(name)?;
+    out.push(b'"')?;
+    push_attribute(out, b"x", at.x)?;
+    push_attribute(out, b"y", at.y)?;
+    out.extend_from_slice(b"/>\n")
+}
+
+/// Puts a line of these classes from the one point to the other.
+pub fn push_line(
+    out: &mut Vec<u8>,
+    classes: &[u8],
+    from: Point,
+    to: Point,
+) -> Result<(), AllocError>
+    ensures { OnOk result (out.new.items ≡ out.old.items ++ line_text classes.now from to) }
+{
+    out.extend_from_slice(b"<path class=\"")?;
+    out.extend_from_slice(classes)?;
+    out.extend_from_slice(b"\" d=\"M")?;
+    push_number(out, from.x)?;
+    out.push(b' ')?;
+    push_number(out, from.y)?;
+    out.push(b'L')?;
+    push_number(out, to.x)?;
+    out.push(b' ')?;
+    push_number(out, to.y)?;
+    out.extend_from_slice(b"\"/>\n")
+}
+
+/// Puts a box of these classes with this upper left corner, so wide and so high.
+pub fn push_box(
+    out: &mut Vec<u8>,
+    classes: &[u8],
+    corner: Point,
+    width: u64,
+    height: u64,
+) -> Result<(), AllocError>
+    ensures { OnOk result (out.new.items ≡ out.old.items ++ box_text classes.now corner width height) }
+{
+    out.extend_from_slice(b"<rect class=\"")?;
+    out.extend_from_slice(classes)?;
+    out.push(b'"')?;
+    push_attribute(out, b"x", corner.x)?;
+    push_attribute(out, b"y", corner.y)?;
+    push_attribute(out, b"width", width)?;
+    push_attribute(out, b"height", height)?;
+    out.extend_from_slice(b"/>\n")
+}

@@ -1,0 +1,3 @@
+#![tactic(auto)]
+mod traced;
+pub use traced::{Refused, Ruling, Saving, Traced, TracedStep};

@@ -1,0 +1,5 @@
+pub mod Store
+pub mod Stepping
+pub mod World
+pub mod Lent
+pub mod auxiliary

@@ -1,0 +1,3 @@
+pub mod Story
+pub mod Marks
+pub mod Said

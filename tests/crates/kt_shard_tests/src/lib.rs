@@ -1,7 +1,0 @@
-//! The public calls of kt_shard, each once as it is meant.
-#![tactic(auto)]
-
-#[cfg(test)]
-mod parts;
-#[cfg(test)]
-mod services;
