@@ -22,12 +22,9 @@ use Rattle.kt_story.specs.Messages.{Sent, all_sent, arrivals, arrivals_in, arrow
 use Rattle.kt_story.specs.Messages.{is_pair, sent_by, sent_on}
 use Rattle.kt_story.specs.Story.{StoryModel}
 use Rattle.kt_story.specs.auxiliary.Waiting.{HasArrivals, HasArrived, Waits}
+use Rattle.kt_story.proofs.Blaming.{both}
 
 -- ---- pairs of nodes
-
-both : (a b : Bool) → (a && b) ≡ true → (a ≡ true) × (b ≡ true)
-both true b e = (refl, e)
-both false b e = absurd (false≢true e)
 
 is_pair-same : (p q a b : NodeId) → is_pair p q a b ≡ true → (a ≡ p) × (b ≡ q)
 is_pair-same p q a b e =

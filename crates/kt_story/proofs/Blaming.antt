@@ -1,5 +1,5 @@
 -- The step that is found is the one to blame, and where one is to blame it is found.
--- Cited by `Story::blame`, `words::reason_of`.
+-- Cited by Arriving, `Story::blame`, `words::reason_of`.
 use Rattle.std.proofs.Common.{◌≡◌, ℕ, Bool, true, false, cond, eqb, List, [], ◌∷◌, Option, Some, None, Result, Ok, Err, refl, sym, ap, ◌∙◌, subst}
 use Rattle.std.proofs.Common.{inl, inr, Contains}
 use Rattle.std.specs.Prelude.{◌&&◌, is_some, option_and_then, unwrap_or, IfOk}
@@ -20,7 +20,7 @@ use Rattle.kt_story.specs.auxiliary.Finding.{AreLosses, blame_by, blame_of, is_o
 
 -- ---- what is found
 
-both : (a b : Bool) → (a && b) ≡ true → (a ≡ true) × (b ≡ true)
+pub both : (a b : Bool) → (a && b) ≡ true → (a ≡ true) × (b ≡ true)
 both true b e = (refl, e)
 both false b e = absurd (false≢true e)
 

@@ -102,5 +102,7 @@ pub fn walk(alloc: Global, seed: u64, scene: u64, tally: &mut Tally) -> Result<(
 /// The steps that a walk through the scene of this seed tries, those that are refused too.
 pub fn tried_steps(alloc: Global, seed: u64) -> Result<Vec<Step>, Finding> {
     let mut tally = Tally::NONE;
-    Ok(walked(alloc, seed, &mut tally)?.watched.into_tried())
+    let watched = walked(alloc, seed, &mut tally)?.watched;
+    watched.end(alloc, &mut tally)?;
+    Ok(watched.into_tried())
 }
