@@ -1,5 +1,5 @@
 -- Words of the command line.
--- Cited by specs/Kind, specs/Shell.
+-- Cited by specs/Kind, specs/Shell; other crates.
 use Rattle.std.specs.Cmp.Lexicographic.{pointwise}
 use Rattle.std.specs.Prelude.{ℕ, Bool, List, nat_eq}
 

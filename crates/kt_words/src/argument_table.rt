@@ -9,6 +9,7 @@ use crate::words::ArgumentWords;
 
 /// The scenario.
 pub const SCENARIO: ArgumentWords = ArgumentWords {
+    id: "scenario",
     name: "SCENARIO",
     help: SCENARIO_HELP,
     is_required: false,
@@ -17,6 +18,7 @@ pub const SCENARIO: ArgumentWords = ArgumentWords {
 
 /// The journal of `migrate`.
 pub const STORE_JOURNAL: ArgumentWords = ArgumentWords {
+    id: "scenario",
     name: "SCENARIO",
     help: STORE_JOURNAL_HELP,
     is_required: false,
@@ -25,6 +27,7 @@ pub const STORE_JOURNAL: ArgumentWords = ArgumentWords {
 
 /// The store of `show`.
 pub const STORE_FILE: ArgumentWords = ArgumentWords {
+    id: "store",
     name: "FILE",
     help: STORE_FILE_HELP,
     is_required: true,
@@ -33,6 +36,7 @@ pub const STORE_FILE: ArgumentWords = ArgumentWords {
 
 /// The number of `explain`.
 pub const NUMBER: ArgumentWords = ArgumentWords {
+    id: "meaning",
     name: "NUMBER",
     help: NUMBER_HELP,
     is_required: true,
@@ -41,6 +45,7 @@ pub const NUMBER: ArgumentWords = ArgumentWords {
 
 /// The shell of `completion`.
 pub const SHELL: ArgumentWords = ArgumentWords {
+    id: "shell",
     name: "SHELL",
     help: SHELL_HELP,
     is_required: true,
@@ -49,6 +54,7 @@ pub const SHELL: ArgumentWords = ArgumentWords {
 
 /// The command of `help`.
 pub const COMMAND: ArgumentWords = ArgumentWords {
+    id: "command",
     name: "COMMAND",
     help: COMMAND_HELP,
     is_required: false,

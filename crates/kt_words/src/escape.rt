@@ -10,7 +10,7 @@ use crate::text::{push_byte, push_text};
 use std::alloc::AllocError;
 
 /// Where a text is put.
-#[derive(Clone, Copy, Debug, PartialEq, Eq)]
+#[derive(Clone, Copy)]
 pub(crate) enum Place {
     /// Between single quotes of zsh, as the description of a word.
     Zsh,

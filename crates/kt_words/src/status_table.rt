@@ -6,7 +6,7 @@ ghost use Rattle.std.specs.List.{list_all};
 ghost use Rattle.kt_words.specs.auxiliary.Status.{is_plain_status};
 
 /// An exit status.
-#[derive(Clone, Copy, Debug, PartialEq, Eq)]
+#[derive(Clone, Copy)]
 pub(crate) struct StatusWords {
     /// The number.
     pub(crate) number: &'static str,

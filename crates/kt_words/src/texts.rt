@@ -1,5 +1,5 @@
 //! What is said of each command, argument and option, in one line each.
-//! Cited by argument_table.rt, command_table.rt, option_table.rt; other crates.
+//! Cited by argument_table.rt, command_table.rt, option_table.rt.
 
 /// What is said of the option `store`.
 pub const STORE_HELP: &str =

@@ -22,6 +22,8 @@ pub struct OptionWords {
 /// An argument of a command: a word without a name.
 #[derive(Clone, Copy, Debug, PartialEq, Eq)]
 pub struct ArgumentWords {
+    /// The name by which the program asks for it. No text shows it.
+    pub id: &'static str,
     /// What stands for it in texts, as `SCENARIO`. `SCENARIO` and `FILE` are names of files.
     pub name: &'static str,
     /// What it is, in one line.

@@ -1,3 +1,4 @@
 pub mod Numbers
 pub mod Parsed
 pub mod Statuses
+pub mod Tables

@@ -5,3 +5,4 @@ pub mod Examples
 pub mod Status
 pub mod Files
 pub mod Holding
+pub mod auxiliary

@@ -1,0 +1,2 @@
+-- What the code alone keeps, and no public clause cites.
+pub mod Table
