@@ -1,5 +1,5 @@
 -- The table of nodes of a world that was just opened or resumed, row by row.
--- Cited by `opening::down_nodes`, `opening::opening_nodes`.
+-- Cited by `opening::down_nodes`, `opening::push_rows`.
 use Rattle.std.proofs.Common.{◌≡◌, ℕ, Option, ◌+◌, List, [], ◌∷◌, ◌++◌, map, sym, ap, ◌∙◌, append_assoc, add-one}
 use Rattle.std.proofs.lemmas.List.{map-append}
 use Rattle.kt_tuple.specs.declared.node.NodeId.TheVariants as ids

@@ -1,7 +1,7 @@
 //! The tables of a world that was just opened or resumed.
 //! Cited by machine.rt.
 
-ghost use Rattle.std.specs.Prelude.{◌≡◌, ℕ, map, [], IfOk, IfSome, replicate, slice_get};
+ghost use Rattle.std.specs.Prelude.{◌≡◌, ℕ, map, [], IfOk, IfSome, OnOk, replicate, slice_get};
 ghost use Rattle.kt_model.specs.Limits.{rows};
 ghost use Rattle.kt_shard.specs.Limits.{sessions};
 ghost use Rattle.kt_core.specs.auxiliary.Rows.{row_view};
@@ -47,13 +47,33 @@ pub(crate) fn opening_nodes(
     ensures { IfOk result (λ nodes. map row_view nodes.items ≡ opening_rows scene.now sessions) }
 {
     let mut nodes = Vec::with_capacity(alloc, ROWS)?;
+    match push_rows(alloc, scene, no_script, &mut nodes) {
+        Ok(()) => Ok(nodes),
+        Err(error) => {
+            drop(nodes);
+            Err(error)
+        }
+    }
+}
+
+/// Puts all rows of the table into a list that has none.
+fn push_rows(
+    alloc: Global,
+    scene: &Scene,
+    no_script: &Script,
+    nodes: &mut Vec<Option<Node>>,
+) -> Result<(), AllocError>
+    requires script { no_script.now ≡ [] }
+    requires none { nodes.old.items ≡ [] }
+    ensures { OnOk result (map row_view nodes.new.items ≡ opening_rows scene.now sessions) }
+{
     for number in 0..SESSIONS {
         let worker = row(alloc, scene, no_script, NodeId::Worker(number))?;
-        let shard = row(alloc, scene, no_script, NodeId::Shard(number))?;
         nodes.push(worker)?;
+        let shard = row(alloc, scene, no_script, NodeId::Shard(number))?;
         nodes.push(shard)?;
     }
-    Ok(nodes)
+    Ok(())
 }
 
 /// The row of a node that is down, which is empty where the scene has no such node.

@@ -18,7 +18,7 @@ use crate::causes::cause_of_waiting;
 use crate::machine::Machine;
 use crate::roles::role_in;
 use kt_model::{Step, StepError, StoreReads};
-use kt_node::{Message, Plan, Refusal, View};
+use kt_node::{Message, Plan, Refusal, Stored, View};
 use kt_tuple::NodeId;
 use std::alloc::Global;
 
@@ -27,6 +27,21 @@ fn as_step(planned: Result<Plan, Refusal>) -> Result<Plan, StepError>
     ensures { (due : Planned) → Plans planned due → Gives result (of_owner due) }
 {
     Ok(planned?)
+}
+
+/// The incarnation and the permanent checkpoint that were read.
+fn stored_in(store_reads: StoreReads) -> Stored
+    ensures { result ≡ store_reads.stored }
+{
+    let StoreReads {
+        stored,
+        permanent,
+        tentative,
+        ..
+    } = store_reads;
+    drop(permanent);
+    drop(tentative);
+    stored
 }
 
 /// What the node makes of a message from another.
@@ -42,24 +57,32 @@ fn heard(
     requires small { store_reads.stored.incarnation + 1 < 2 ^ 64 }
     ensures { Plans result (hear (view_of view.entry) store_reads from message.now) }
 {
-    let StoreReads {
-        verdict,
-        permanent,
-        tentative,
-        stored,
-        ..
-    } = store_reads;
+    let verdict = store_reads.verdict;
     match message {
-        Message::App(app) => view.hear_app(alloc, from, app),
+        Message::App(app) => {
+            drop(store_reads);
+            view.hear_app(alloc, from, app)
+        }
         Message::CheckAsk(ask) => {
-            let (permanent, tentative) = (permanent.as_ref(), tentative.as_ref());
-            view.hear_check(alloc, from, *ask, verdict, permanent, tentative)
+            let permanent = store_reads.permanent.as_ref();
+            let tentative = store_reads.tentative.as_ref();
+            let plan = view.hear_check(alloc, from, *ask, verdict, permanent, tentative);
+            drop(store_reads);
+            plan
         }
         Message::RollAsk(ask) => {
-            view.hear_rollback(alloc, from, *ask, verdict, permanent.as_ref())
+            let permanent = store_reads.permanent.as_ref();
+            let plan = view.hear_rollback(alloc, from, *ask, verdict, permanent);
+            drop(store_reads);
+            plan
         }
-        Message::Vote(vote) => view.hear_vote(alloc, from, *vote),
-        Message::Verdict { instance, yes } => view.hear_verdict(alloc, stored, *instance, *yes),
+        Message::Vote(vote) => {
+            drop(store_reads);
+            view.hear_vote(alloc, from, *vote)
+        }
+        Message::Verdict { instance, yes } => {
+            view.hear_verdict(alloc, stored_in(store_reads), *instance, *yes)
+        }
     }
 }
 
@@ -75,26 +98,40 @@ fn voting(
     requires small { store_reads.stored.incarnation + 1 < 2 ^ 64 }
     ensures { Plans result (voting_owner_plan (view_of view.entry) store_reads step) }
 {
-    let StoreReads {
-        verdict,
-        permanent,
-        tentative,
-        stored,
-        undecided,
-        next,
-    } = store_reads;
+    let (verdict, undecided) = (store_reads.verdict, store_reads.undecided);
+    let (next, has_tentative) = (store_reads.next, store_reads.tentative.is_some());
     match step {
-        Step::Check { .. } => view.check(alloc, next, permanent.as_ref()),
-        Step::Decide { .. } => view.decide(alloc, verdict),
-        Step::Abandon { .. } => view.abandon(alloc, verdict, undecided),
-        Step::Learn { .. } => view.learn(alloc, stored, tentative.is_some(), verdict),
-        Step::Fail { .. } => view.fail(alloc, verdict, permanent.as_ref(), tentative.as_ref()),
+        Step::Check { .. } => {
+            let plan = view.check(alloc, next, store_reads.permanent.as_ref());
+            drop(store_reads);
+            plan
+        }
+        Step::Decide { .. } => {
+            drop(store_reads);
+            view.decide(alloc, verdict)
+        }
+        Step::Abandon { .. } => {
+            drop(store_reads);
+            view.abandon(alloc, verdict, undecided)
+        }
+        Step::Learn { .. } => view.learn(alloc, stored_in(store_reads), has_tentative, verdict),
+        Step::Fail { .. } => {
+            let permanent = store_reads.permanent.as_ref();
+            let tentative = store_reads.tentative.as_ref();
+            let plan = view.fail(alloc, verdict, permanent, tentative);
+            drop(store_reads);
+            plan
+        }
         Step::Restart { .. } => {
-            view.restart(alloc, stored, next, tentative.is_some(), undecided, verdict)
+            let stored = stored_in(store_reads);
+            view.restart(alloc, stored, next, has_tentative, undecided, verdict)
         }
         // `owner_plan` hands over the six steps above alone. A match has to answer for the other five of `Step` too,
         // and the definition that it meets, `voting_owner_plan`, has this answer for them.
-        _ => Err(Refusal::WrongMode),
+        _ => {
+            drop(store_reads);
+            Err(Refusal::WrongMode)
+        }
     }
 }
 
@@ -168,18 +205,31 @@ impl Machine {
         ensures { Plans result (owner_plan (state_of self.now empty_content) store_reads step) }
     {
         match step {
-            Step::Issue { .. } => seen.issue(alloc),
-            Step::Repeat { .. } => seen.repeat(alloc),
-            Step::Take { .. } => seen.take(alloc),
+            Step::Issue { .. } => {
+                drop(store_reads);
+                seen.issue(alloc)
+            }
+            Step::Repeat { .. } => {
+                drop(store_reads);
+                seen.repeat(alloc)
+            }
+            Step::Take { .. } => {
+                drop(store_reads);
+                seen.take(alloc)
+            }
             Step::Deliver { from, to } => match self.links.front(from, to) {
                 Some(message) => heard(seen, alloc, store_reads, from, message),
-                None => Err(Refusal::NothingThere),
+                None => {
+                    drop(store_reads);
+                    Err(Refusal::NothingThere)
+                }
             },
             Step::Serve {
                 shard,
                 worker,
                 place,
             } => {
+                drop(store_reads);
                 let number = worker.number();
                 let by = cause_of_waiting(self.past.history(), shard, number);
                 seen.serve(alloc, number, place, by)

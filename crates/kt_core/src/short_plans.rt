@@ -154,9 +154,16 @@ impl Machine {
             state_of self.new c ≡ applied (state_of self.old c) step (plan_of short)) }
         ensures same { OnErr result ((c : Content) → state_of self.new c ≡ state_of self.old c) }
     {
-        self.make_room_for_short(step.owner(), &short)?;
-        self.carry_out_short(step, short);
-        Ok(())
+        match self.make_room_for_short(step.owner(), &short) {
+            Ok(()) => {
+                self.carry_out_short(step, short);
+                Ok(())
+            }
+            Err(error) => {
+                drop(short);
+                Err(error)
+            }
+        }
     }
 
     /// Makes the step, where it has a short plan and memory suffices.

@@ -200,7 +200,9 @@ impl<S: CkptStore> World<S> {
         let read_set = self.machine.read_set(step);
         let store_reads = read_store(&mut self.store, alloc, step.owner(), read_set)?;
         let step_plan = self.machine.plan(alloc, store_reads, step);
-        Ok(!is_refused(&step_plan))
+        let refused = is_refused(&step_plan);
+        drop(step_plan);
+        Ok(!refused)
     }
 
     /// Whether the step is enabled, the limit of steps left aside: nothing but the limit, the store or want of memory
@@ -219,7 +221,9 @@ impl<S: CkptStore> World<S> {
         let read_set = self.machine.read_set(step);
         let store_reads = read_store(&mut self.store, alloc, step.owner(), read_set)?;
         let unlimited_plan = self.machine.unlimited_plan(alloc, store_reads, step);
-        Ok(!is_refused(&unlimited_plan))
+        let refused = is_refused(&unlimited_plan);
+        drop(unlimited_plan);
+        Ok(!refused)
     }
 
     /// What happened so far: a note for each act and each cut, in order.

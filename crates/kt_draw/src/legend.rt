@@ -14,7 +14,7 @@ use std::alloc::AllocError;
 pub(crate) const LINE: u64 = 22;
 
 /// What an entry of the legend explains.
-#[derive(Clone, Copy, Debug, PartialEq, Eq)]
+#[derive(Clone, Copy)]
 pub(crate) enum Symbol {
     /// A mark.
     Mark(Mark),
@@ -93,7 +93,7 @@ impl Symbol {
 }
 
 /// Where the entries of a legend stand: each behind the one before, on the same line where it fits.
-#[derive(Clone, Copy, Debug, PartialEq, Eq)]
+#[derive(Clone, Copy)]
 pub(crate) struct Flow {
     /// Where the next entry begins.
     pub next: Point,

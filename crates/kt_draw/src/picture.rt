@@ -24,7 +24,7 @@ use std::alloc::{AllocError, Global};
 const NOTHING: &[u8] = b"no step was made";
 
 /// All that a picture is drawn of.
-#[derive(Debug, Drop)]
+#[derive(Drop)]
 struct Drawing {
     sheet: Sheet,
     arrows: Vec<Arrow>,

@@ -16,7 +16,7 @@ pub(crate) const MARGIN: u64 = 12;
 const NARROW: u64 = 480;
 
 /// A sheet.
-#[derive(Clone, Copy, Debug, PartialEq, Eq)]
+#[derive(Clone, Copy)]
 pub(crate) struct Sheet {
     pub plane: Plane,
     /// The number of the step of the first row.

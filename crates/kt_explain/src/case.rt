@@ -8,7 +8,7 @@ use kt_text::{WorkKind, line_at};
 use kt_tuple::reading::{int_of, word_at};
 
 /// A line that has a fault, and where it stands.
-#[derive(Clone, Copy, Debug)]
+#[derive(Clone, Copy)]
 pub(crate) struct Case<'a> {
     /// The kind of work that was wanted.
     pub(crate) kind: WorkKind,
@@ -25,7 +25,7 @@ pub(crate) struct Case<'a> {
 }
 
 /// What stands above a line. None of it has a fault.
-#[derive(Clone, Copy, Debug)]
+#[derive(Clone, Copy)]
 pub(crate) struct Above<'a> {
     /// The number behind `shards`; 0 above that line.
     pub(crate) shards: i64,

@@ -7,7 +7,7 @@ use crate::reason::{Limit, Reason};
 use kt_tuple::reading::word_at;
 
 /// What was found wrong in a line.
-#[derive(Clone, Copy, Debug)]
+#[derive(Clone, Copy)]
 pub(crate) struct Finding<'a> {
     /// The bytes of the line from the first one that is wrong.
     pub(crate) rest: &'a [u8],

@@ -6,7 +6,7 @@ use kt_tuple::reading::{after_place, value_at, word_at};
 use kt_tuple::{Kind, MAX_PLACES};
 
 /// What stands in a place, as far as names go.
-#[derive(Clone, Copy, Debug)]
+#[derive(Clone, Copy)]
 pub(crate) enum Spelled<'a> {
     /// A value, or a formal without a name.
     Nameless,

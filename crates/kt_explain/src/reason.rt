@@ -22,7 +22,7 @@ pub(crate) const ALONE: Reason = Reason::Said(
 );
 
 /// Why a line has a fault.
-#[derive(Clone, Copy, Debug)]
+#[derive(Clone, Copy)]
 pub(crate) enum Reason {
     /// This text says all of it.
     Said(&'static str),
@@ -49,7 +49,7 @@ pub(crate) enum Reason {
 }
 
 /// What a text lacks that ends too early.
-#[derive(Clone, Copy, Debug)]
+#[derive(Clone, Copy)]
 pub(crate) struct Missing {
     /// What the next line is to be.
     pub(crate) line: &'static str,
@@ -58,7 +58,7 @@ pub(crate) struct Missing {
 }
 
 /// What has a limit.
-#[derive(Clone, Copy, Debug)]
+#[derive(Clone, Copy)]
 pub(crate) enum Limit {
     /// The bytes of the text.
     Text,

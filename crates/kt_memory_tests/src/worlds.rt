@@ -3,9 +3,9 @@
 
 use crate::hoard::{BLOCKS, hoard_all};
 use kt_core::{OpenError, OpenRefused, Scene, Step, StepError, World};
-use kt_script::{Actual, Actuals, Command, Operation, Pattern, Script, Slot};
+use kt_scene::{Scenario, WorkKind, read_scene};
 use kt_store::{MemStore, StoreError};
-use kt_tuple::{Kind, NodeId, Value};
+use kt_tuple::NodeId;
 use std::alloc::{AllocError, Global};
 use std::process::Abort;
 use std::test::Fail;
@@ -16,26 +16,14 @@ const W1: NodeId = NodeId::Worker(1);
 
 const S1: NodeId = NodeId::Shard(1);
 
-/// A script of two commands, `out (7)` and `in (?int)`.
-fn script(alloc: Global) -> Result<Script, Fail> {
-    let (mut actuals, mut slots) = (Vec::new(alloc), Vec::new(alloc));
-    let seven = Actual::Literal(Value::Int(7));
-    actuals.push(seven)?;
-    let any_int = Slot::Formal(Kind::Int, None);
-    slots.push(any_int)?;
-    let give = Operation::Out(Actuals::new(actuals).ok_or("a tuple")?);
-    let take = Operation::In(Pattern::new(slots).ok_or("a template")?);
-    let mut script = Script::new(alloc);
-    script.push(Command::Ask(give))?;
-    script.push(Command::Ask(take))?;
-    Ok(script)
-}
+/// A shard, and a worker that puts a tuple and takes one.
+const SCENE: &[u8] = b"linda-kt 1\nshards 1\nworker\nout (7)\nin (?int)\nsteps\nend\n";
 
-/// A shard, and a worker with this script.
 fn scene(alloc: Global) -> Result<Scene, Fail> {
-    let mut scripts = Vec::with_capacity(alloc, 1)?;
-    scripts.push(script(alloc)?)?;
-    Ok(Scene::new(1, scripts).ok_or("a scene")?)
+    match read_scene(alloc, SCENE, WorkKind::Steps) {
+        Ok(Scenario { scene, .. }) => Ok(scene),
+        Err(_) => Err(Fail::new("no scene")),
+    }
 }
 
 /// How many notes there are, and how many steps the node made.
@@ -180,11 +168,38 @@ fn steps_with_little(
 /// The world in which the steps were made with little memory, when the hoard is given back.
 fn played_with_little(rt: &impl Abort, alloc: Global) -> Result<Game, Fail> {
     let scene = scene(alloc)?;
-    let mut little = Little::new(alloc)?;
-    hoard_all(alloc, &mut little.hoard)?;
-    let mut world = open_with_little(rt, alloc, scene, &mut little)?;
-    steps_with_little(rt, alloc, &mut world, &STEPS, &mut little)?;
-    Ok(world)
+    match Little::new(alloc) {
+        Ok(mut little) => {
+            let played = played_with(rt, alloc, scene, &mut little);
+            drop(little);
+            played
+        }
+        Err(error) => {
+            drop(scene);
+            Err(Fail::from(error))
+        }
+    }
+}
+
+/// The world of the scene in which the steps were made with this memory.
+fn played_with(
+    rt: &impl Abort,
+    alloc: Global,
+    scene: Scene,
+    little: &mut Little,
+) -> Result<Game, Fail> {
+    if let Err(error) = hoard_all(alloc, &mut little.hoard) {
+        drop(scene);
+        return Err(Fail::from(error));
+    }
+    let mut world = open_with_little(rt, alloc, scene, little)?;
+    match steps_with_little(rt, alloc, &mut world, &STEPS, little) {
+        Ok(()) => Ok(world),
+        Err(fail) => {
+            drop(world);
+            Err(fail)
+        }
+    }
 }
 
 /// With ever more memory a world is opened and each step made, as it would have been with much of it.
@@ -192,8 +207,15 @@ fn played_with_little(rt: &impl Abort, alloc: Global) -> Result<Game, Fail> {
 fn little_memory(rt: HostRuntime) -> Result<(), Fail> {
     let alloc = rt.alloc();
     let world = played_with_little(&rt, alloc)?;
-    assert_eq!(rt; counts(&world, W1), (12, 17));
-    assert_eq!(rt; counts(&world, S1), (12, 9));
+    let seen = has_played(&rt, alloc, &world);
+    drop(world);
+    seen
+}
+
+/// Both requests were served, and nothing was lost.
+fn has_played(rt: &impl Abort, alloc: Global, world: &Game) -> Result<(), Fail> {
+    assert_eq!(rt; counts(world, W1), (12, 17));
+    assert_eq!(rt; counts(world, S1), (12, 9));
     let survivors = world.history().survivors(alloc)?;
     assert_eq!(rt; world.history().lost_count(), 0);
     assert_eq!(rt; survivors.len(), 2);

@@ -112,8 +112,25 @@ fn restarting_plan(
       write = Some BeginRestart;
     }) }
 {
-    let (ballot, send) = restarting(alloc, role, loaded.sent(), next, incarnation)?;
-    let change = Change::loading(alloc, loaded.rolling(ballot))?;
+    match restarting(alloc, role, loaded.sent(), next, incarnation) {
+        Ok((ballot, send)) => loading_plan(alloc, loaded.rolling(ballot), send),
+        Err(error) => {
+            drop(loaded);
+            Err(error)
+        }
+    }
+}
+
+/// The node becomes this one, and says this.
+fn loading_plan(alloc: Global, loaded: Loaded, send: Outbox) -> Result<Plan, AllocError>
+    ensures { IfOk result (λ p. p ≡ record {
+      change = Load loaded;
+      send = send;
+      note = None;
+      write = Some BeginRestart;
+    }) }
+{
+    let change = Change::loading(alloc, loaded)?;
     Ok(Plan::writing(change, send, Write::BeginRestart))
 }
 

@@ -67,19 +67,27 @@ fn release_plan(alloc: Global, instance: u64, asked: &[NodeId]) -> Result<Plan, 
     Ok(Plan::of(alloc, Update::to(Phase::Up), send, None)?)
 }
 
-/// The rollback got Yes: the node becomes this one, and its log is cut.
+/// The rollback got Yes, which is passed on to these: the node becomes this one, and its log keeps so many acts.
 fn restoring_plan(
     alloc: Global,
+    node: NodeId,
     loaded: Loaded,
-    note: Option<Note>,
-    send: Outbox,
+    keep: u64,
+    instance: u64,
+    asked: &[NodeId],
 ) -> Result<Plan, AllocError>
-    ensures { IfOk result (λ p. p ≡ record { change = Load loaded; send = send; note = note; write = Some Bump }) }
+    ensures { IfOk result (λ p. p ≡ record {
+      change = Load loaded;
+      send = verdict_to instance true asked.now;
+      note = cut_of node keep;
+      write = Some Bump;
+    }) }
 {
+    let change = Change::loading(alloc, loaded)?;
     Ok(Plan {
-        change: Change::loading(alloc, loaded)?,
-        send,
-        note,
+        change,
+        send: verdict_to(alloc, instance, true, asked)?,
+        note: cut_of(node, keep),
         write: Some(Write::Bump),
     })
 }
@@ -118,9 +126,8 @@ impl View<'_> {
     {
         let keep = stored.acts();
         let loaded = self.load(alloc, stored)?;
-        let send = verdict_to(alloc, instance, true, asked)?;
-        let note = cut_of(self.role.id, keep);
-        Ok(restoring_plan(alloc, loaded, note, send)?)
+        let plan = restoring_plan(alloc, self.role.id, loaded, keep, instance, asked)?;
+        Ok(plan)
     }
 
     /// What a node that is down with a tentative checkpoint does with the verdict; it stays down. With No its log

@@ -114,14 +114,7 @@ impl View<'_> {
         ensures { IfOk result (λ e. plan_of e ≡
             service_plan (view_of self.entry) (live_view live.now) worker by service) }
     {
-        let request = service.request();
-        let what = What::Served(service.answer().copy(alloc)?);
-        let note = self.note(alloc, by, worker, request, what)?;
-        let talk = Talk::Reply {
-            request: request.copy(alloc)?,
-            answer: service.answer().copy(alloc)?,
-        };
-        let message = self.app(live, talk);
+        let (message, note) = self.served(alloc, live, worker, by, &service)?;
         Ok(ShortPlan {
             update: ShortUpdate::Serves { worker, service },
             send: Some((NodeId::Worker(worker), message)),
@@ -194,13 +187,8 @@ impl View<'_> {
         ensures { IfOk result (λ e. plan_of e ≡
             again_plan (view_of self.entry) (live_view live.now) Keeps from app.now request.now answer.now) }
     {
-        let what = What::Again(answer.copy(alloc)?);
-        let note = self.note(alloc, app.by, from.number(), request, what)?;
-        let talk = Talk::Reply {
-            request: request.copy(alloc)?,
-            answer: answer.copy(alloc)?,
-        };
-        let message = self.app(live, talk);
+        let worker = from.number();
+        let (message, note) = self.answered_again(alloc, live, worker, app.by, request, answer)?;
         Ok(ShortPlan {
             update: ShortUpdate::Answers {
                 from,

@@ -141,48 +141,85 @@ impl View<'_> {
     }
 
     /// The message in which the shard answers.
-    fn replies(
+    fn reply(
         self,
         alloc: Global,
         live: &Live,
-        to: NodeId,
         request: &Request,
         answer: &Answer,
-    ) -> Result<Outbox, AllocError>
+    ) -> Result<Message, AllocError>
         requires { CanCount (live_view live.now) }
-        ensures { IfOk result (λ send. send ≡
-            (to, app_of (view_of self.entry) (live_view live.now) (Replied request.now answer.now)) ∷ []) }
+        ensures { IfOk result (λ message. message ≡
+            app_of (view_of self.entry) (live_view live.now) (Replied request.now answer.now)) }
     {
-        let talk = Talk::Reply {
-            request: request.copy(alloc)?,
-            answer: answer.copy(alloc)?,
-        };
-        Outbox::one(alloc, to, self.app(live, talk))
+        let request = request.copy(alloc)?;
+        let answer = answer.copy(alloc)?;
+        Ok(self.app(live, Talk::Reply { request, answer }))
     }
 
-    /// What a shard says that answers this, and the note of it.
-    fn answering(
+    /// That message to the worker of this number, and the note of it.
+    fn reply_noted(
         self,
         alloc: Global,
         live: &Live,
-        to: NodeId,
+        worker: u8,
         by: u64,
         request: &Request,
         answer: &Answer,
         what: What,
-    ) -> Result<(Outbox, Option<Note>), AllocError>
+    ) -> Result<(Message, Option<Note>), AllocError>
         requires { CanCount (live_view live.now) }
         ensures { IfOk result (λ said. said ≡ (
-          (to, app_of (view_of self.entry) (live_view live.now) (Replied request.now answer.now)) ∷ [],
-          note_of self.entry.role.id by (node_number to) request.now what,
+          app_of (view_of self.entry) (live_view live.now) (Replied request.now answer.now),
+          note_of self.entry.role.id by worker request.now what,
         )) }
     {
-        let send = self.replies(alloc, live, to, request, answer)?;
-        let note = self.note(alloc, by, to.number(), request, what)?;
-        Ok((send, note))
+        let note = self.note(alloc, by, worker, request, what)?;
+        let message = self.reply(alloc, live, request, answer)?;
+        Ok((message, note))
     }
 
     /// What a shard says that makes this service, and the note of it.
+    pub(crate) fn served(
+        self,
+        alloc: Global,
+        live: &Live,
+        worker: u8,
+        by: u64,
+        service: &Prepared,
+    ) -> Result<(Message, Option<Note>), AllocError>
+        requires { CanCount (live_view live.now) }
+        ensures { IfOk result (λ said. said ≡ (
+          app_of (view_of self.entry) (live_view live.now) (Replied service.now.request service.now.answer),
+          note_of self.entry.role.id by worker service.now.request (Served service.now.answer),
+        )) }
+    {
+        let (request, answer) = (service.request(), service.answer());
+        let what = What::Served(answer.copy(alloc)?);
+        self.reply_noted(alloc, live, worker, by, request, answer, what)
+    }
+
+    /// What a shard says that sends a cached answer again, and the note of it.
+    pub(crate) fn answered_again(
+        self,
+        alloc: Global,
+        live: &Live,
+        worker: u8,
+        by: u64,
+        request: &Request,
+        answer: &Answer,
+    ) -> Result<(Message, Option<Note>), AllocError>
+        requires { CanCount (live_view live.now) }
+        ensures { IfOk result (λ said. said ≡ (
+          app_of (view_of self.entry) (live_view live.now) (Replied request.now answer.now),
+          note_of self.entry.role.id by worker request.now (Again answer.now),
+        )) }
+    {
+        let what = What::Again(answer.copy(alloc)?);
+        self.reply_noted(alloc, live, worker, by, request, answer, what)
+    }
+
+    /// The message of that service in an outbox, and its note.
     fn serving(
         self,
         alloc: Global,
@@ -201,9 +238,8 @@ impl View<'_> {
           note_of self.entry.role.id by (node_number to) service.now.request (Served service.now.answer),
         )) }
     {
-        let (request, answer) = (service.request(), service.answer());
-        let what = What::Served(answer.copy(alloc)?);
-        self.answering(alloc, live, to, by, request, answer, what)
+        let (message, note) = self.served(alloc, live, to.number(), by, service)?;
+        Ok((Outbox::one(alloc, to, message)?, note))
     }
 
     /// The shard serves the worker of this number. The cause is that of the hearing which put it in waiting.
@@ -225,7 +261,7 @@ impl View<'_> {
         Plan::of(alloc, update, send, note)
     }
 
-    /// What a shard says that sends a cached answer again, and the note of it.
+    /// The message of that answer in an outbox, and its note.
     pub(crate) fn answering_again(
         self,
         alloc: Global,
@@ -241,7 +277,8 @@ impl View<'_> {
           note_of self.entry.role.id by (node_number to) request.now (Again answer.now),
         )) }
     {
-        let what = What::Again(answer.copy(alloc)?);
-        self.answering(alloc, live, to, by, request, answer, what)
+        let worker = to.number();
+        let (message, note) = self.answered_again(alloc, live, worker, by, request, answer)?;
+        Ok((Outbox::one(alloc, to, message)?, note))
     }
 }

@@ -11,7 +11,7 @@ use kt_tuple::{Answer, NodeId};
 use std::alloc::{AllocError, Global};
 
 /// A service.
-#[derive(Debug, Drop)]
+#[derive(Drop)]
 pub(crate) struct Fate {
     /// The number of the step that made it.
     pub step: u64,
@@ -26,7 +26,7 @@ pub(crate) struct Fate {
 }
 
 /// A check or a rollback.
-#[derive(Clone, Copy, Debug, PartialEq, Eq)]
+#[derive(Clone, Copy)]
 pub(crate) struct Begun {
     /// Its number.
     pub instance: u64,
@@ -41,7 +41,7 @@ pub(crate) struct Begun {
 }
 
 /// The services, the checks and the rollbacks of a story, each in its order.
-#[derive(Debug, Drop)]
+#[derive(Drop)]
 pub(crate) struct Fates {
     pub services: Vec<Fate>,
     pub instances: Vec<Begun>,

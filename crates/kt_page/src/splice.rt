@@ -6,7 +6,7 @@ ghost use Rattle.kt_cells.specs.Texts.{text_of};
 ghost use Rattle.kt_page.specs.auxiliary.Splice.{put};
 
 /// A change of lines: at this place so many are taken out, and these are put there.
-#[derive(Clone, Copy, Debug, PartialEq, Eq)]
+#[derive(Clone, Copy)]
 pub(crate) struct Splice<'a> {
     /// The place of the first line that goes, counted from 0.
     pub at: usize,

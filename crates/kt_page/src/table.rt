@@ -35,7 +35,7 @@ const SERVICE_HEADS: &[&str] = &["Request", "Step", "Shard", "Service", "So far"
 const INSTANCE_HEADS: &[&str] = &["Number", "Kind", "Of", "Step", "Verdict"];
 
 /// The cells of a table that is written: all of the page, and how many of them are written.
-#[derive(Clone, Copy, Debug)]
+#[derive(Clone, Copy)]
 struct Left<'a> {
     cells: &'a [Vec<Vec<u8>>],
     next: usize,

@@ -18,7 +18,7 @@ use kt_trace::{Traced, trace_step, world_of};
 use std::alloc::{AllocError, Global};
 
 /// What a page shows of nodes and links.
-#[derive(Debug, Drop)]
+#[derive(Drop)]
 pub(crate) struct Watched {
     /// What happened.
     pub story: Story,
@@ -29,7 +29,7 @@ pub(crate) struct Watched {
 }
 
 /// The cells of before, and what changed of them so far.
-#[derive(Debug, Drop)]
+#[derive(Drop)]
 struct Changes {
     old: Vec<Vec<Vec<u8>>>,
     texts: Vec<Vec<u8>>,

@@ -8,7 +8,7 @@ use std::fmt;
 use std::fmt::{Display, Formatter, Write};
 
 /// A node by its name in a scenario: `w1`, `s2`.
-#[derive(Clone, Copy, Debug)]
+#[derive(Clone, Copy)]
 pub(crate) struct Name(pub NodeId);
 
 impl Display for Name {
@@ -21,7 +21,7 @@ impl Display for Name {
 }
 
 /// So many nodes of a kind: `w1`, or `w1 to w3`.
-#[derive(Clone, Copy, Debug)]
+#[derive(Clone, Copy)]
 pub(crate) struct Names {
     /// The letter of the kind: `w` or `s`.
     pub letter: char,
@@ -71,7 +71,7 @@ pub(crate) fn word_of(step: Step) -> &'static str {
 
 /// A step that is to be written so many times, one line after the other: `` `deliver w1 s1` ``, or
 /// `` `deliver w1 s1` 2 times ``.
-#[derive(Clone, Copy, Debug)]
+#[derive(Clone, Copy)]
 pub(crate) struct Due {
     pub(crate) step: Step,
     pub(crate) times: usize,
@@ -140,7 +140,7 @@ pub(crate) fn push_steps(out: &mut String, steps: &[Option<Due>]) -> Result<(), 
 }
 
 /// A number of things: `1 tuple that matches`, `no tuple that matches`.
-#[derive(Clone, Copy, Debug)]
+#[derive(Clone, Copy)]
 pub(crate) struct Count {
     count: usize,
     one: &'static str,

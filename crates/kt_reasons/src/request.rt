@@ -9,7 +9,7 @@ use kt_store::CkptStore;
 use kt_tuple::{ALL_NODES, NodeId, Op};
 
 /// A worker's request that is unanswered, and where it is.
-#[derive(Clone, Copy, Debug)]
+#[derive(Clone, Copy)]
 pub(crate) struct Unanswered {
     pub(crate) worker: NodeId,
     pub(crate) number: u64,
@@ -17,7 +17,7 @@ pub(crate) struct Unanswered {
 }
 
 /// Where a request or its answer is.
-#[derive(Clone, Copy, Debug)]
+#[derive(Clone, Copy)]
 pub(crate) enum Place {
     /// The request is on its way to the shard, and arrives with this delivery, counted from 1.
     Coming { shard: NodeId, delivery: usize },

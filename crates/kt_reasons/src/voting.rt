@@ -23,7 +23,7 @@ pub(crate) fn initiator<S: CkptStore>(world: &World<S>, node: NodeId) -> Option<
 }
 
 /// What a node began that it did not decide.
-#[derive(Clone, Copy, Debug)]
+#[derive(Clone, Copy)]
 pub(crate) enum Begun {
     Check,
     Rollback,

@@ -1,5 +1,5 @@
 -- A shard that is made again, act by act.
--- Cited by Suited, `Remade::ignores`, `Remade::makes`, `shard::remake_shard`, `suits::are_empty_outside`.
+-- Cited by Suited, `Remade::ignores`, `Remade::makes_all`, `Remade::makes`, `suits::are_empty_outside`.
 use Rattle.std.proofs.Common.{◌≡◌, ◌≢◌, ℕ, ◌+◌, ◌<◌, Bool, IsTrue, List, [], ◌∷◌, ◌++◌, length, take, drop, set, get_or, zero, suc, All, IsPermutation, Option}
 use Rattle.std.proofs.Common.{Some, None, refl, sym, ap, subst, ◌∙◌, arith, take-append-drop, replicate}
 use Rattle.std.specs.Prelude.{◌↔◌}

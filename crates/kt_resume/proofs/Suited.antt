@@ -1,6 +1,6 @@
 -- When what a checkpoint has of its node is what the acts of its log made again.
--- Cited by `suits::are_empty_outside`, `suits::has_just`, `suits::is_stored_as`, `suits::suits_shard`,
---   `suits::suits_worker`.
+-- Cited by `suits::are_empty_outside`, `suits::is_stored_as`, `suits::suits_shard`, `suits::suits_worker`,
+--   `suits::takes_just`.
 use Rattle.std.proofs.Common.{◌≡◌, ℕ, Bool, IsTrue, zero, suc, ◌+◌, ◌<◌, ◌≤◌, List, [], ◌∷◌, ◌++◌, length, map, take, get_or, Contains, IsPermutation, Option}
 use Rattle.std.proofs.Common.{Some, None, refl, sym, ap, subst, ◌∙◌, arith, inl, inr}
 use Rattle.std.specs.Prelude.{◌↔◌}

@@ -1,5 +1,5 @@
 -- Which acts a worker may make, told from where it stands, and the acts of a log one by one.
--- Cited by Remakes, `shard::remake_shard`, `worker::remake_worker`.
+-- Cited by Remakes, `Remade::makes_all`, `worker::remake_worker`.
 use Rattle.std.proofs.Common.{◌≡◌, ◌⊎◌, ℕ, zero, suc, ◌+◌, ◌<◌, ◌≤◌, Bool, true, false, List, [], ◌∷◌, ◌++◌, length, take, drop, get_or, take-append-drop}
 use Rattle.std.proofs.Common.{Option, None, Some, inl, inr, refl, sym, ap, ◌∙◌, subst, arith}
 use Rattle.std.specs.Prelude.{IsTrue, IfSome}

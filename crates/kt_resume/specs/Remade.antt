@@ -1,7 +1,7 @@
 -- A shard that was made again, as plain data, and when it is what acts make of a shard.
 -- Cited by Fits, Remakes, Suited, entries.rt, shard.rt, slot.rt, specs/auxiliary/Slots, specs/auxiliary/Suits,
---   suits.rt, `Remade::ignores`, `Remade::makes`, `Slot::waits_with`, `entries::has_entries`, `leads::shard_leads_to`,
---   `shard::empty_slots`, `shard::remake_shard`, `suits::are_empty_outside`, `suits::suits_shard`.
+--   suits.rt, `Remade::ignores`, `Remade::makes_all`, `Remade::makes`, `Slot::waits_with`, `entries::has_entries`,
+--   `leads::shard_leads_to`, `shard::empty_slots`, `suits::are_empty_outside`, `suits::suits_shard`.
 use Rattle.std.specs.Prelude.{◌≡◌, ℕ, List, IsPermutation}
 use Rattle.kt_tuple.specs.declared.tuple.Tuple.{Tuple}
 use Rattle.kt_shard.specs.declared.session.Session.{Session}

@@ -1,7 +1,7 @@
 //! A shard is made again by the acts of its log.
 //! Cited by leads.rt, suits.rt.
 
-ghost use Rattle.std.specs.Prelude.{◌≡◌, ◌↔◌, ◌≤◌, ◌<◌, All, IfOk, IfSome, IsTrue, Some, None, length, replicate};
+ghost use Rattle.std.specs.Prelude.{◌≡◌, ◌↔◌, ◌≤◌, ◌<◌, All, IfOk, IfSome, IsTrue, Some, None, false, length, replicate};
 ghost use Rattle.kt_history.specs.Closed.{acts_in_log};
 ghost use Rattle.kt_shard.specs.Limits.{sessions};
 ghost use Rattle.kt_tuple.specs.declared.node.NodeId.TheVariants as ids;
@@ -57,15 +57,17 @@ pub fn remake_shard(
         → ¬ ShardLog shards name new_shard (acts_in_log history.now.notes (ids.Shard name))) }
 {
     let mut remade = Remade::new(alloc)?;
-    for number in history.line(NodeId::Shard(name)) {
-        // Each number of a log is of an act.
-        if let Some(act) = history.act(*number) {
-            if !remade.makes(alloc, shards, name, act)? {
-                return Ok(None);
-            }
+    match remade.makes_all(alloc, shards, name, history) {
+        Ok(true) => Ok(Some(remade)),
+        Ok(false) => {
+            drop(remade);
+            Ok(None)
+        }
+        Err(error) => {
+            drop(remade);
+            Err(error)
         }
     }
-    Ok(Some(remade))
 }
 
 impl Remade {
@@ -73,10 +75,40 @@ impl Remade {
     fn new(alloc: Global) -> Result<Remade, AllocError>
         ensures { IfOk result (λ r. IsRemade new_shard r) }
     {
+        let slots = empty_slots(alloc)?;
         Ok(Remade {
             bag: Bag::new(alloc),
-            slots: empty_slots(alloc)?,
+            slots,
         })
+    }
+
+    /// Makes the acts of the log of the shard of this number, one after the other, and says whether it may.
+    fn makes_all(
+        &mut self,
+        alloc: Global,
+        shards: u8,
+        name: u8,
+        history: &History,
+    ) -> Result<bool, AllocError>
+        requires shards { 1 ≤ shards }
+        requires new { IsRemade new_shard self.old }
+        ensures made { IfOk result (λ may. IsTrue may → ShardLog shards name new_shard
+            (acts_in_log history.now.notes (ids.Shard name))) }
+        ensures like { IfOk result (λ may. IsTrue may → IsRemade
+            (shard_of_acts new_shard (acts_in_log history.now.notes (ids.Shard name))) self.new) }
+        ensures none { IfOk result (λ may. may ≡ false
+            → All (λ a. a.worker < sessions) (acts_in_log history.now.notes (ids.Shard name))
+            → ¬ ShardLog shards name new_shard (acts_in_log history.now.notes (ids.Shard name))) }
+    {
+        for number in history.line(NodeId::Shard(name)) {
+            // Each number of a log is of an act.
+            if let Some(act) = history.act(*number) {
+                if !self.makes(alloc, shards, name, act)? {
+                    return Ok(false);
+                }
+            }
+        }
+        Ok(true)
     }
 
     /// Makes the act, and says whether the shard of this number may.

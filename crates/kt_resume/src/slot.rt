@@ -100,8 +100,8 @@ impl Slot {
             number: act.number,
             op,
         };
-        self.session.waiting = None;
-        self.session.cached = Some(CachedReply { request, answer });
+        drop(self.session.waiting.take());
+        drop(self.session.cached.replace(CachedReply { request, answer }));
         Ok(true)
     }
 

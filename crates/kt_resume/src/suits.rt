@@ -115,13 +115,22 @@ fn is_allowed(workers: u8, number: usize, slot: &Slot) -> bool
     (1 <= number && number <= usize::from(workers)) || slot.is_empty()
 }
 
-/// Whether the bag has just these tuples, in any order. Each is taken out of it, and then none is left.
+/// Whether the bag has just these tuples, in any order.
 fn has_just(alloc: Global, bag: Bag, tuples: &[Tuple]) -> Result<bool, AllocError>
     ensures { IfOk result (λ has. IsTrue has ↔ IsPermutation bag.tuples tuples.now) }
 {
     let mut left = bag;
+    let has = takes_just(alloc, &mut left, tuples);
+    drop(left);
+    has
+}
+
+/// Whether the bag has just these tuples. Each is taken out of it, and then none is left.
+fn takes_just(alloc: Global, left: &mut Bag, tuples: &[Tuple]) -> Result<bool, AllocError>
+    ensures { IfOk result (λ has. IsTrue has ↔ IsPermutation left.old.tuples tuples.now) }
+{
     for tuple in tuples {
-        if !take_equal(alloc, &mut left, tuple)? {
+        if !take_equal(alloc, left, tuple)? {
             return Ok(false);
         }
     }

@@ -34,6 +34,7 @@ pub fn remake_worker(
         // Each number of a log is of an act.
         if let Some(act) = history.act(*number) {
             if !makes(alloc, script, name, &mut worker, act)? {
+                drop(worker);
                 return Ok(None);
             }
         }

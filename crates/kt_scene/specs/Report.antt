@@ -1,7 +1,7 @@
 -- The report of a world, as text.
 -- Cited by JournalWritten, OneReport, Reports, TupleLists, laws.rt, report.rt, specs/Journal, specs/Run,
---   specs/auxiliary/Texts, `report::push_services`; other crates.
-use Rattle.std.specs.Prelude.{◌≡◌, ℕ, Bool, List, [], ◌∷◌, ◌++◌, length, map, codes, decimal, IsPermutation, IsTrue}
+--   specs/auxiliary/Texts, `report::push_report`, `report::push_services`; other crates.
+use Rattle.std.specs.Prelude.{◌≡◌, ℕ, Bool, List, ◌++◌, length, map, codes, decimal, IsPermutation, IsTrue}
 use Rattle.std.specs.List.{flat_map}
 use Rattle.std.specs.List.Sorted.{IsSorted}
 use Rattle.std.specs.Ordering.{nat_cmp}

@@ -1,12 +1,12 @@
 //! The report of a world: what survives, what is lost, and the tuples.
 //! Cited by journal.rt, replaying.rt; other crates.
 
-ghost use Rattle.std.specs.Prelude.{◌≡◌, ◌≢◌, ◌++◌, List, ℕ, map, IfOk, IfErr, IsTrue, OnErr, OnOk, Err};
+ghost use Rattle.std.specs.Prelude.{◌≡◌, ◌≢◌, ◌++◌, [], List, ℕ, map, IfOk, IfErr, IsTrue, OnErr, OnOk, Err};
 ghost use Rattle.std.specs.List.{flat_map};
 ghost use Rattle.kt_tuple.specs.Spelling.{tuple_text};
 ghost use Rattle.kt_core.specs.World.{beside};
 ghost use Rattle.kt_scene.specs.Report.{IsReport, IsReportOf, WritesReport, WritesReportFront};
-ghost use Rattle.kt_scene.specs.auxiliary.Texts.{AppendsTexts};
+ghost use Rattle.kt_scene.specs.auxiliary.Texts.{AppendsReport, AppendsTexts};
 ghost use Rattle.kt_scene.specs.Report.{count_line, service_line};
 ghost use Rattle.kt_text.specs.Text.{text_line};
 ghost use Rattle.kt_scene.specs.auxiliary.Texts.{items_of};
@@ -77,15 +77,58 @@ fn report_of<S: CkptStore>(
     ensures { IfOk result (λ text. IsReport world.now.is_honest world.now.state.history permanent.now text.items) }
 {
     let history = world.history();
+    let lost = history.lost_count();
     let survivors = history.survivors(alloc)?;
-    let space = space_of(alloc, &survivors)?;
+    match space_of(alloc, &survivors) {
+        Ok(space) => {
+            let text = report_with(alloc, &survivors, lost, &space, permanent);
+            drop(space);
+            drop(survivors);
+            text
+        }
+        Err(error) => {
+            drop(survivors);
+            Err(error)
+        }
+    }
+}
+
+/// The text of a report with these survivors, so many lost services and these tuples.
+fn report_with(
+    alloc: Global,
+    survivors: &[Service],
+    lost: u64,
+    space: &Bag,
+    permanent: &[Tuple],
+) -> Result<Vec<u8>, AllocError>
+    ensures { IfOk result (λ text. AppendsReport survivors.now lost space.now.tuples permanent.now [] text.items) }
+{
     let mut out = Vec::new(alloc);
-    push_count(&mut out, b"survivors ", survivors.len() as u64)?;
-    push_services(&mut out, &survivors)?;
-    push_count(&mut out, b"lost ", history.lost_count())?;
-    push_bag(alloc, &mut out, b"space ", &space)?;
-    push_tuples(alloc, &mut out, b"permanent ", permanent)?;
-    Ok(out)
+    match push_report(alloc, &mut out, survivors, lost, space, permanent) {
+        Ok(()) => Ok(out),
+        Err(error) => {
+            drop(out);
+            Err(error)
+        }
+    }
+}
+
+fn push_report(
+    alloc: Global,
+    out: &mut Vec<u8>,
+    survivors: &[Service],
+    lost: u64,
+    space: &Bag,
+    permanent: &[Tuple],
+) -> Result<(), AllocError>
+    ensures { OnOk result
+        (AppendsReport survivors.now lost space.now.tuples permanent.now out.old.items out.new.items) }
+{
+    push_count(out, b"survivors ", survivors.len() as u64)?;
+    push_services(out, survivors)?;
+    push_count(out, b"lost ", lost)?;
+    push_bag(alloc, out, b"space ", space)?;
+    push_tuples(alloc, out, b"permanent ", permanent)
 }
 
 /// The word, a number and the end of the line.

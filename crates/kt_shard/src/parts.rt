@@ -33,9 +33,10 @@ impl Parts {
     pub(crate) fn new(alloc: Global) -> Result<Parts, AllocError>
         ensures { IfOk result (λ p. state_in p ≡ empty_shard) }
     {
+        let sessions = empty_sessions(alloc)?;
         Ok(Parts {
             bag: Bag::new(alloc),
-            sessions: empty_sessions(alloc)?,
+            sessions,
         })
     }
 
@@ -43,10 +44,9 @@ impl Parts {
     pub(crate) fn copy(&self, alloc: Global) -> Result<Parts, AllocError>
         ensures { IfOk result (λ p. state_in p ≡ state_in self.now) }
     {
-        Ok(Parts {
-            bag: self.bag.copy(alloc)?,
-            sessions: copy_sessions(alloc, &self.sessions)?,
-        })
+        let sessions = copy_sessions(alloc, &self.sessions)?;
+        let bag = self.bag.copy(alloc)?;
+        Ok(Parts { bag, sessions })
     }
 
     /// No tuples, and no sessions either: what stands in a shard while its parts are moved. It takes no memory.

@@ -36,14 +36,14 @@ impl Session {
     pub(crate) fn wait(&mut self, request: Request)
         ensures { self.new ≡ record { waiting = Some request; cached = self.old.cached } }
     {
-        self.waiting = Some(request);
+        drop(self.waiting.replace(request));
     }
 
     /// The worker waits no more, and this is kept.
     pub(crate) fn keep(&mut self, cached: CachedReply)
         ensures { self.new ≡ record { waiting = None; cached = Some cached } }
     {
-        self.waiting = None;
-        self.cached = Some(cached);
+        drop(self.waiting.take());
+        drop(self.cached.replace(cached));
     }
 }

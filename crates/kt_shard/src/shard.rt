@@ -91,7 +91,7 @@ impl Shard {
     {
         let held = mem::replace(&mut self.held, Held::Own(Parts::none(alloc)));
         let (held, again) = shared(alloc, held);
-        self.held = held;
+        drop(mem::replace(&mut self.held, held));
         again
     }
 
@@ -226,7 +226,7 @@ impl Shard {
         let alloc = self.parts().allocator();
         let held = mem::replace(&mut self.held, Held::Own(Parts::none(alloc)));
         let (held, made) = with_room(held);
-        self.held = held;
+        drop(mem::replace(&mut self.held, held));
         made
     }
 

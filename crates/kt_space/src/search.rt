@@ -14,7 +14,7 @@ use crate::key::Key;
 use kt_tuple::{Template, Tuple};
 
 /// What a search found, and what it did for it.
-#[derive(Clone, Copy, Debug)]
+#[derive(Clone, Copy)]
 pub(crate) struct Search {
     /// The slot of the match; `None` where there are too few matches.
     pub(crate) place: Option<usize>,

@@ -97,7 +97,7 @@ pub(crate) fn file_connection(
 pub(crate) fn closed(conn: Connection<FileStore<File>>, error: SqlOpenError) -> SqlOpenError
     ensures { result ≡ error }
 {
-    let _ = conn.close();
+    drop(conn.close());
     error
 }
 

@@ -38,7 +38,7 @@ pub struct NodeCells {
 }
 
 /// The cells of a row of the board.
-#[derive(Clone, Copy, Debug)]
+#[derive(Clone, Copy)]
 pub(crate) struct InstanceCells {
     /// The number of the instance, from 1 to 2^62.
     pub instance: Number,

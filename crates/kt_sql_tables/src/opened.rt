@@ -35,7 +35,7 @@ const VERSION: i64 = 2;
 const OLD_VERSION: i64 = 1;
 
 /// What the schema and the third table say.
-#[derive(Clone, Copy, Debug, PartialEq, Eq)]
+#[derive(Clone, Copy)]
 pub(crate) enum Kind {
     /// The tables are those of a store, in the version that is made.
     This,

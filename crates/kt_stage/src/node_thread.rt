@@ -20,7 +20,7 @@ use std::sync::Wait;
 
 /// That a node's part of a run ended early: something was refused, which the run's state says, or else memory ran out
 /// or a thread could not be started.
-#[derive(Clone, Copy, Debug, PartialEq, Eq)]
+#[derive(Clone, Copy)]
 pub(crate) struct Halted;
 
 /// How many steps a node makes at most before it lets the others at the lock. To let go of the lock and to take it
@@ -38,7 +38,7 @@ pub(crate) struct NodeThread<L: Naming> {
 }
 
 /// What came of a node's turns.
-#[derive(Debug, Drop)]
+#[derive(Drop)]
 enum TurnOutcome {
     /// It made as many steps as it may in a row.
     Made,

@@ -30,7 +30,7 @@ use std::sync::{Condvar, Mutex, Wait};
 pub(crate) type Flags = [bool; MAX_NODES];
 
 /// What was refused in a run.
-#[derive(Clone, Copy, Debug, PartialEq, Eq)]
+#[derive(Clone, Copy)]
 pub(crate) struct Refused {
     /// The place in the journal that the step would have had, counted from 1.
     pub(crate) at: u64,

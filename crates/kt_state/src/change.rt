@@ -11,6 +11,7 @@ use kt_vote::Ballot;
 use kt_worker::Worker;
 use std::alloc::{AllocError, Global};
 use std::marker::Model;
+use std::mem;
 
 /// What becomes of a worker or a shard.
 #[derive(Debug, Drop)]
@@ -89,7 +90,7 @@ impl Loaded {
         ensures { result ≡ record self { phase = phases.Rolling ballot } }
     {
         let mut live = self.live;
-        live.phase = Phase::Rolling(ballot);
+        drop(mem::replace(&mut live.phase, Phase::Rolling(ballot)));
         Loaded { live }
     }
 }

@@ -1,7 +1,7 @@
 //! Loading the permanent state.
 //! Cited by other crates.
 
-ghost use Rattle.std.specs.Prelude.{◌≡◌, ◌+◌, ◌<◌, ◌^◌, IfOk, map, Some, None};
+ghost use Rattle.std.specs.Prelude.{◌≡◌, ◌+◌, ◌<◌, ◌^◌, ◌++◌, IfOk, OnOk, map, Some, None};
 ghost use Rattle.kt_shard.specs.Limits.{sessions};
 ghost use Rattle.kt_state.specs.Labels.{tabled, no_labels, no_firsts, numbers};
 ghost use Rattle.kt_state.specs.Loading.{loaded_by, loaded_from};
@@ -87,12 +87,25 @@ fn bag_of(alloc: Global, tuples: &[Tuple]) -> Result<Bag, AllocError>
     ensures { IfOk result (λ b. b.tuples ≡ tuples.now) }
 {
     let mut bag = Bag::new(alloc);
+    match put_copies(alloc, &mut bag, tuples) {
+        Ok(()) => Ok(bag),
+        Err(error) => {
+            drop(bag);
+            Err(error)
+        }
+    }
+}
+
+/// Puts copies of these behind what the bag has.
+fn put_copies(alloc: Global, bag: &mut Bag, tuples: &[Tuple]) -> Result<(), AllocError>
+    ensures { OnOk result (bag.new.tuples ≡ bag.old.tuples ++ tuples.now) }
+{
     for tuple in tuples {
         let copy = tuple.copy(alloc)?;
         bag.reserve()?;
         bag.put_reserved(copy);
     }
-    Ok(bag)
+    Ok(())
 }
 
 fn request_of(
@@ -150,7 +163,6 @@ fn sessions_of(
 }
 
 /// The shard of the state, where it is one of the scene and has no more tuples than there are acts.
-#[tactic(auto, using(crate::proofs::Numbers::whole_table))]
 fn shard_from(alloc: Global, role: Role<'_>, acts: u64, state: &ShardState) -> Result<Body, Refusal>
     ensures { GivesBody result
         (if_fits (shard_fits (role_view role.entry) acts state.now) (IsShard (shard_from state.now))) }
@@ -160,9 +172,17 @@ fn shard_from(alloc: Global, role: Role<'_>, acts: u64, state: &ShardState) -> R
     if !(are_there && tuples.len() as u64 <= acts) {
         return Err(Refusal::Damaged);
     }
-    let bag = bag_of(alloc, tuples)?;
-    let sessions = sessions_of(alloc, waiting, cached)?;
-    Ok(Body::Shard(Shard::from_parts(bag, sessions)))
+    Ok(Body::Shard(shard_of(alloc, state)?))
+}
+
+/// The shard of a state that fits.
+#[tactic(auto, using(crate::proofs::Numbers::whole_table))]
+fn shard_of(alloc: Global, state: &ShardState) -> Result<Shard, AllocError>
+    ensures { IfOk result (λ s. s.state ≡ shard_from state.now) }
+{
+    let sessions = sessions_of(alloc, state.waiting(), state.cached())?;
+    let bag = bag_of(alloc, state.bag())?;
+    Ok(Shard::from_parts(bag, sessions))
 }
 
 /// What a node of this kind works with behind so many acts.
@@ -290,8 +310,8 @@ fn opening_live(alloc: Global, role: Role<'_>, incarnation: u64) -> Result<Live,
         fresh_live phases.Up incarnation (opening_body (role_view role.entry) role.entry.id) no_labels no_labels) }
     ensures tables { IfOk result HasTables }
 {
-    let body = opening_body(alloc, role)?;
     let tables = no_tables(alloc)?;
+    let body = opening_body(alloc, role)?;
     Ok(fresh_live(alloc, incarnation, body, tables))
 }
 
@@ -355,7 +375,14 @@ fn loaded_with(
     ensures { IfOk result (λ l. l ≡
         fresh_live phases.Up incarnation (body_view body) (tabled sent.now) (tabled received.now)) }
 {
-    let tables = tables_of(alloc, sent, received)?;
-    let live = fresh_live(alloc, incarnation, body, tables);
-    Ok(Loaded { live })
+    match tables_of(alloc, sent, received) {
+        Ok(tables) => {
+            let live = fresh_live(alloc, incarnation, body, tables);
+            Ok(Loaded { live })
+        }
+        Err(error) => {
+            drop(body);
+            Err(error)
+        }
+    }
 }

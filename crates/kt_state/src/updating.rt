@@ -25,6 +25,7 @@ use kt_tuple::NodeId;
 use kt_worker::Worker;
 use std::alloc::AllocError;
 use std::collections::VecDeque;
+use std::mem;
 
 impl Node {
     /// Makes room for one tuple more and for one kept message more; a step needs no more of either, since it puts one
@@ -77,13 +78,13 @@ impl Node {
     fn fall(&mut self)
         ensures { self.new.node ≡ Down }
     {
-        self.live = None;
+        drop(self.live.take());
     }
 
     fn become_this(&mut self, loaded: Loaded)
         ensures { self.new.node ≡ Alive loaded }
     {
-        self.live = Some(loaded.live);
+        drop(self.live.replace(loaded.live));
     }
 }
 
@@ -125,7 +126,7 @@ impl Live {
             self.first.fill(None);
         }
         if let Some(phase) = phase {
-            self.phase = phase;
+            drop(mem::replace(&mut self.phase, phase));
         }
     }
 

@@ -15,7 +15,7 @@ use kt_tuple::NodeId;
 use std::alloc::AllocError;
 
 /// What a write makes of a node's row.
-#[derive(Debug, Drop)]
+#[derive(Drop)]
 pub(crate) enum Change {
     /// The node is in this incarnation.
     Incarnation(u64),

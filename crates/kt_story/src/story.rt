@@ -12,7 +12,7 @@ ghost use Rattle.kt_story.specs.Marks.{mark_of};
 ghost use Rattle.kt_story.specs.Messages.{act_lost_at};
 ghost use Rattle.kt_story.specs.Story.{IsStoryOf, act_is_lost, act_survives, is_act, last_refused};
 ghost use Rattle.kt_story.specs.Story.{made_rows};
-ghost use Rattle.kt_story.specs.auxiliary.Finding.{blame_by, is_of, makes};
+ghost use Rattle.kt_story.specs.auxiliary.Finding.{AreLosses, blame_by, is_of, makes};
 ghost use Rattle.kt_story.specs.declared.mark.Mark.TheVariants as marks;
 
 use crate::mark::{Mark, mark_of};
@@ -67,9 +67,13 @@ impl Story {
         ensures told { IfOk result (IsStoryOf (opening scene) steps.now) }
     {
         let mut world = world_of(alloc, scene)?;
-        let entries = trace_on(alloc, &mut world, steps, &[])?;
-        let story = Story::told(alloc, world, entries)?;
-        Ok(story)
+        match trace_on(alloc, &mut world, steps, &[]) {
+            Ok(entries) => Story::told(alloc, world, entries),
+            Err(error) => {
+                drop(world);
+                Err(error)
+            }
+        }
     }
 
     /// The story of which these entries tell, which ends in this world.
@@ -82,15 +86,43 @@ impl Story {
         ensures rows { IfOk result (λ story. story.rows ≡ made_rows entries.items) }
         ensures refused { IfOk result (λ story. story.refused ≡ last_refused None entries.items) }
     {
-        let losses = losses(alloc, world.history())?;
+        match losses(alloc, world.history()) {
+            Ok(losses) => Story::with_losses(alloc, world, entries, losses),
+            Err(error) => {
+                drop(world);
+                drop(entries);
+                Err(error)
+            }
+        }
+    }
+
+    /// The same, with the losses of the world.
+    fn with_losses(
+        alloc: Global,
+        world: World<MemStore>,
+        entries: Vec<Traced>,
+        losses: Vec<Loss>,
+    ) -> Result<Story, AllocError>
+        requires { AreLosses world.state.history losses.items }
+        ensures state { IfOk result (λ story. story.state ≡ world.state) }
+        ensures rows { IfOk result (λ story. story.rows ≡ made_rows entries.items) }
+        ensures refused { IfOk result (λ story. story.refused ≡ last_refused None entries.items) }
+    {
         let mut rows = Vec::new(alloc);
-        let refused = split(&mut rows, entries)?;
-        Ok(Story {
-            world,
-            rows,
-            refused,
-            losses,
-        })
+        match split(&mut rows, entries) {
+            Ok(refused) => Ok(Story {
+                world,
+                rows,
+                refused,
+                losses,
+            }),
+            Err(error) => {
+                drop(world);
+                drop(rows);
+                drop(losses);
+                Err(error)
+            }
+        }
     }
 
     /// How many workers the scene has.

@@ -44,7 +44,7 @@ fn push_lost_and_checks<S: CkptStore>(
     out: &mut String,
     world: &World<S>,
     steps: &[Step],
-    again: Option<Remade>,
+    again: Option<&Remade>,
 ) -> Result<(), AllocError> {
     let history = world.history();
     let Some(Remade { store, makers }) = again else {
@@ -59,7 +59,7 @@ fn push_lost_and_checks<S: CkptStore>(
         out,
         history,
         steps,
-        makers_of(history.notes(), &makers),
+        makers_of(history.notes(), makers),
     )?;
     push_checks(out, steps, store.board())
 }
@@ -96,6 +96,13 @@ pub fn explain_end<S: CkptStore>(
         Some(scenario) => push_run(alloc, &mut out, text, scenario, steps)?,
         None => remade_of_steps(alloc, text, steps)?,
     };
-    push_lost_and_checks(alloc, &mut out, world, steps, again)?;
-    Ok(out.into_bytes())
+    let pushed = push_lost_and_checks(alloc, &mut out, world, steps, again.as_ref());
+    drop(again);
+    match pushed {
+        Ok(()) => Ok(out.into_bytes()),
+        Err(error) => {
+            drop(out);
+            Err(error)
+        }
+    }
 }

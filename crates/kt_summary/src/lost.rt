@@ -4,7 +4,7 @@
 use crate::names::{MAX_TOLD, Name, push_op, push_rest};
 use kt_core::Step;
 use kt_history::{Act, History, Note};
-use kt_losses::losses;
+use kt_losses::{Loss, losses};
 use std::alloc::{AllocError, Global};
 use std::fmt::Write;
 
@@ -18,6 +18,20 @@ pub(crate) fn push_losses(
     makers: &[u64],
 ) -> Result<(), AllocError> {
     let lost = losses(alloc, history)?;
+    let pushed = push_all(alloc, out, history, steps, makers, &lost);
+    drop(lost);
+    pushed
+}
+
+/// Those lines, of these losses.
+fn push_all(
+    alloc: Global,
+    out: &mut String,
+    history: &History,
+    steps: &[Step],
+    makers: &[u64],
+    lost: &[Loss],
+) -> Result<(), AllocError> {
     match lost.len() {
         0 => return out.push_str("  no service was lost\n"),
         1 => out.push_str("  1 service was lost:\n")?,

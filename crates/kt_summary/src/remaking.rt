@@ -33,13 +33,25 @@ pub fn remake(alloc: Global, scene: Scene, steps: &[Step]) -> Result<Option<Rema
 {
     let mut world = match World::open(alloc, scene, MemStore::new(alloc)) {
         Ok(world) => world,
-        Err(_) => return Err(AllocError),
+        Err(refused) => {
+            drop(refused);
+            return Err(AllocError);
+        }
     };
-    let Some(makers) = make_all(alloc, &mut world, steps)? else {
-        return Ok(None);
-    };
-    let store = world.into_store();
-    Ok(Some(Remade { store, makers }))
+    match make_all(alloc, &mut world, steps) {
+        Ok(Some(makers)) => {
+            let store = world.into_store();
+            Ok(Some(Remade { store, makers }))
+        }
+        Ok(None) => {
+            drop(world);
+            Ok(None)
+        }
+        Err(error) => {
+            drop(world);
+            Err(error)
+        }
+    }
 }
 
 /// Whether a step was refused for want of memory. A store in memory refuses for nothing else.

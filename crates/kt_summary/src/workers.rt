@@ -17,11 +17,23 @@ pub(crate) fn push_workers<S: CkptStore>(
 ) -> Result<(), AllocError> {
     push_finished(out, world)?;
     let waits = waiting(alloc, world)?;
+    let pushed = push_others(alloc, out, world, &waits);
+    drop(waits);
+    pushed
+}
+
+/// Puts a line for each worker that did not finish.
+fn push_others<S: CkptStore>(
+    alloc: Global,
+    out: &mut String,
+    world: &World<S>,
+    waits: &[Wait],
+) -> Result<(), AllocError> {
     for worker in ALL_WORKERS {
         let name = Name(worker);
         match worker_end(world, worker) {
             None | Some(WorkerEnd::Finished) => {}
-            Some(WorkerEnd::Waiting) => push_waiting(alloc, out, world, worker, &waits)?,
+            Some(WorkerEnd::Waiting) => push_waiting(alloc, out, world, worker, waits)?,
             Some(WorkerEnd::Ready) => writeln!(out, "  {name} did not ask for its next operation")?,
             Some(WorkerEnd::Held) => {
                 writeln!(

@@ -10,7 +10,7 @@ use kt_scenario::Step;
 use kt_state::{Message, Mode};
 
 /// Words before the name of a node, and words behind it.
-#[derive(Clone, Copy, Debug)]
+#[derive(Clone, Copy)]
 pub(crate) struct Verb {
     pub before: &'static [u8],
     pub behind: &'static [u8],

@@ -25,7 +25,7 @@ use kt_tuple::reading::{after_place, int_at, int_of, value_at, value_of};
 use kt_tuple::{Kind, MAX_PLACES, Value};
 
 /// The verb of an operation: the word that begins its line.
-#[derive(Clone, Copy, Debug, PartialEq, Eq)]
+#[derive(Clone, Copy)]
 pub(crate) enum Verb {
     Out,
     In,
@@ -35,7 +35,7 @@ pub(crate) enum Verb {
 }
 
 /// A command as its line spells it.
-#[derive(Debug, Drop)]
+#[derive(Drop)]
 pub(crate) struct Spelled {
     pub(crate) command: Command,
     /// The number in it is not too large; otherwise 0 stands in its place.

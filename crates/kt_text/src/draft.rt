@@ -30,7 +30,7 @@ use std::marker::Model;
 use std::mem;
 
 /// What the next line is to be.
-#[derive(Clone, Copy, Debug, PartialEq, Eq)]
+#[derive(Clone, Copy)]
 pub(crate) enum Expected {
     Title,
     Shards,
@@ -44,7 +44,7 @@ pub(crate) enum Expected {
 }
 
 /// What was read so far.
-#[derive(Debug, Drop)]
+#[derive(Drop)]
 pub(crate) struct Draft {
     alloc: Global,
     expected: Expected,

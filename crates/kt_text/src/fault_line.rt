@@ -12,7 +12,7 @@ use kt_script::Script;
 use kt_tuple::NodeId;
 
 /// What a fault line asks for, as it is spelled.
-#[derive(Clone, Copy, Debug, PartialEq, Eq)]
+#[derive(Clone, Copy)]
 pub(crate) struct Asked {
     kind: FaultKind,
     node: NodeId,

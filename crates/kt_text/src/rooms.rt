@@ -12,7 +12,7 @@ use std::mem;
 /// Room for the places of the command that the next line may spell. It is made before that line is read: so the line is
 /// judged whole and takes no memory, and want of memory hides no fault of it (docs/DECISIONS.md#values). The next lines
 /// use it again.
-#[derive(Debug, Drop)]
+#[derive(Drop)]
 pub(crate) struct Rooms {
     pub(crate) slots: Vec<Slot>,
     pub(crate) actuals: Vec<Actual>,

@@ -2,7 +2,7 @@
 //! Cited by tracing.rt.
 
 ghost use Rattle.std.specs.Prelude.{◌≡◌, ◌==◌, ◌&&◌, IfOk};
-ghost use Rattle.std.specs.List.{find};
+ghost use Rattle.std.specs.List.{find, flat_map};
 ghost use Rattle.std.specs.Option.{option_copied};
 ghost use Rattle.kt_tuple.specs.Node.{node_eq};
 ghost use Rattle.kt_store.specs.Verdict.{is_open};
@@ -10,7 +10,8 @@ ghost use Rattle.kt_store.specs.declared.rows.InstanceRow.{InstanceRow};
 ghost use Rattle.kt_store.specs.declared.rows.NodeRow.{NodeRow};
 ghost use Rattle.kt_trace.specs.Rows.{heard, mode_at, note_since, begun_since, open_instance, tentative_instance};
 ghost use Rattle.kt_trace.specs.Rows.{ruling_by, saving_by, verdict_at};
-ghost use Rattle.kt_trace.specs.auxiliary.Glimpses.{glimpse_of, row_from};
+ghost use Rattle.kt_scenario.specs.Step.{owner};
+ghost use Rattle.kt_trace.specs.auxiliary.Glimpses.{glimpse_of, new_on, row_from};
 
 use crate::copying::{copy_message, copy_note};
 use crate::traced::{Ruling, Saving, TracedStep};
@@ -18,13 +19,13 @@ use crate::ways::Ways;
 use kt_core::World;
 use kt_history::Note;
 use kt_scenario::Step;
-use kt_state::{Message, Mode};
+use kt_state::{Message, Mode, Outbox};
 use kt_store::{InstanceRow, MemStore, NodeRow, Verdict};
 use kt_tuple::NodeId;
 use std::alloc::{AllocError, Global};
 
 /// What is looked at before a step, of the node whose step it is and of the whole.
-#[derive(Debug, Drop)]
+#[derive(Drop)]
 pub(crate) struct Glimpse {
     /// The node's mode.
     mode: Mode,
@@ -57,11 +58,13 @@ impl Glimpse {
     {
         let node = step.owner();
         let history = world.history();
+        let ways = Ways::of(alloc, world, node)?;
+        let heard = heard(alloc, world, step)?;
         Ok(Glimpse {
             mode: mode_at(world, node),
             kept: world.kept_len(node),
-            heard: heard(alloc, world, step)?,
-            ways: Ways::of(alloc, world, node)?,
+            heard,
+            ways,
             notes: history.notes().len(),
             instances: world.store().board().len(),
             tentative: tentative_instance(world, node),
@@ -81,26 +84,79 @@ impl Glimpse {
     ) -> Result<TracedStep, AllocError>
         ensures { IfOk result (λ row. row ≡ row_from number line step self world.now.state) }
     {
+        match self.ways.sent_since(alloc, world, step.owner()) {
+            Ok(sent) => self.row_of_sent(alloc, world, number, line, step, sent),
+            Err(error) => {
+                drop(self);
+                Err(error)
+            }
+        }
+    }
+
+    /// The row of the step, which sent this.
+    fn row_of_sent(
+        self,
+        alloc: Global,
+        world: &World<MemStore>,
+        number: u64,
+        line: u64,
+        step: Step,
+        sent: Outbox,
+    ) -> Result<TracedStep, AllocError>
+        requires { sent ≡ flat_map (new_on world.now.state (owner step)) self.ways }
+        ensures { IfOk result (λ row. row ≡ row_from number line step self world.now.state) }
+    {
+        match note_since(alloc, world, self.notes) {
+            Ok(note) => Ok(self.row_of_parts(world, number, line, step, sent, note)),
+            Err(error) => {
+                drop(sent);
+                drop(self);
+                Err(error)
+            }
+        }
+    }
+
+    /// The row of the step, which sent this and left this note.
+    fn row_of_parts(
+        self,
+        world: &World<MemStore>,
+        number: u64,
+        line: u64,
+        step: Step,
+        sent: Outbox,
+        note: Option<Note>,
+    ) -> TracedStep
+        requires sent { sent ≡ flat_map (new_on world.now.state (owner step)) self.ways }
+        requires note { note ≡ note_since self.notes world.now.state }
+        ensures { result ≡ row_from number line step self world.now.state }
+    {
         let node = step.owner();
         let history = world.history();
         let tentative = tentative_instance(world, node);
-        Ok(TracedStep {
+        let Glimpse {
+            mode,
+            heard,
+            ways,
+            ..
+        } = self;
+        drop(ways);
+        TracedStep {
             number,
             line,
             step,
             node,
-            was: self.mode,
+            was: mode,
             is: mode_at(world, node),
-            heard: self.heard,
+            heard,
             keeps: self.kept < world.kept_len(node),
-            sent: self.ways.sent_since(alloc, world, node)?,
-            note: note_since(alloc, world, self.notes)?,
+            sent,
+            note,
             notes: history.notes().len() as u64,
             begun: begun_since(world, self.instances),
             saving: saving_by(world, self.tentative, tentative),
             ruling: ruling_by(world, step, self.pending),
             undone: history.lost_count().saturating_sub(self.lost),
-        })
+        }
     }
 }
 

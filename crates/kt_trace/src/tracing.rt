@@ -33,8 +33,9 @@ pub fn trace(
         entries.items ≡ trace_from lines.now 1 (opening scene) steps.now) }
 {
     let mut world = world_of(alloc, scene)?;
-    let entries = trace_on(alloc, &mut world, steps, lines)?;
-    Ok(entries)
+    let entries = trace_on(alloc, &mut world, steps, lines);
+    drop(world);
+    entries
 }
 
 /// A world of this scene over a store in memory, in which no step was made yet. `AllocError` where memory is wanting.
@@ -107,6 +108,7 @@ pub fn trace_step(
             Ok(Traced::Made(row))
         }
         Err(cause) => {
+            drop(before);
             if is_want(cause) {
                 return Err(AllocError);
             }

@@ -14,7 +14,7 @@ use std::alloc::{AllocError, Global};
 use std::marker::Model;
 
 /// Nodes, and how many messages were on their way to each.
-#[derive(Debug, Drop)]
+#[derive(Drop)]
 pub(crate) struct Ways {
     counts: Vec<(NodeId, usize)>,
 }

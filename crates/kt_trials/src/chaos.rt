@@ -30,7 +30,7 @@ use std::sync::Wait;
 use std::thread::Threads;
 
 /// A scenario with random faults.
-#[derive(Debug, Drop)]
+#[derive(Drop)]
 struct Laid {
     /// Its text.
     text: Vec<u8>,

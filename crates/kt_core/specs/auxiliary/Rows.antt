@@ -2,7 +2,7 @@
 -- Cited by Later, Openings, Readiness, change.rt, machine.rt, opening.rt, specs/auxiliary/Machine, tables.rt,
 --   `Machine::make_room_for_short`, `Machine::make_room`, `World::is_steady`, `change::change_node`,
 --   `change::make_room_in_row`, `change::say_in_row`, `change::share_in_row`, `change::update_in_row`,
---   `opening::down_nodes`, `opening::opening_nodes`.
+--   `opening::down_nodes`, `opening::push_rows`.
 use Rattle.std.specs.Prelude.{Bool, Option, IfSome, IsTrue}
 use Rattle.std.specs.Option.{option_map}
 use Rattle.kt_state.specs.declared.node.Node.{Node as NodeCode}

@@ -24,9 +24,9 @@ carry_out_short-requires-clause-can c =
 
 pub carry_out_short-requires-clause-room : goal.carry_out_short-requires-clause-room
 carry_out_short-requires-clause-room c =
-    subst (λ p. HasRoomFor c.make_room_for_short.new.self p (plan_of c.args.short)) c.owner.ensures c.in_ok-make_room_for_short.ensures.room
+    subst (λ p. HasRoomFor c.make_room_for_short.new.self p (plan_of c.args.short)) c.owner.ensures c.in-Ok.ensures.room
 
-pub returns-clause-made : goal.returns-clause-made
-returns-clause-made c =
+pub returns-in-Ok-clause-made : goal.returns-in-Ok-clause-made
+returns-in-Ok-clause-made c =
     λ held. c.carry_out_short.ensures held
     ∙ ap (λ (s : State). applied s c.args.step (plan_of c.args.short)) (c.make_room_for_short.ensures.same held)

@@ -3,7 +3,7 @@ use Rattle.kt_history.specs.declared.note.Note.{Note}
 use Rattle.kt_story.specs.auxiliary.Finding.{AreLosses}
 use Rattle.kt_story.proofs.story.Story.told.Goals as goal
 
-pub invariant_of-result : goal.invariant_of-result
-invariant_of-result c =
-    subst (λ (h : List Note). AreLosses h c.in_ok-losses.losses.items) c.history.ensures.value
-    (record { each = c.in_ok-losses.ensures.each; all = c.in_ok-losses.ensures.all })
+pub with_losses-requires : goal.with_losses-requires
+with_losses-requires c =
+    subst (λ (h : List Note). AreLosses h c.in-Ok.losses.items) c.history.ensures.value
+    (record { each = c.in-Ok.ensures.each; all = c.in-Ok.ensures.all })

@@ -1,8 +1,8 @@
 use Rattle.kt_core.proofs.Openings.{no_rows, more_rows}
-use Rattle.kt_core.proofs.opening.opening_nodes.Goals as goal
+use Rattle.kt_core.proofs.opening.push_rows.Goals as goal
 
 pub loop-number-init : goal.loop-number-init
-loop-number-init c = no_rows c.in_ok-nodes.nodes.items c.args.scene.now c.in_ok-nodes.ensures.items
+loop-number-init c = no_rows c.args.nodes.now.items c.args.scene.now c.requires.none
 
 pub loop-number-preserved : goal.loop-number-preserved
 loop-number-preserved c =

@@ -10,8 +10,8 @@ use Rattle.kt_shard.specs.Limits.{sessions}
 use Rattle.kt_resume.specs.Remade.{IsRemade, RemadeShard}
 use Rattle.kt_resume.proofs.Remakes.{ShardLog-more, all_act, log_act}
 use Rattle.kt_resume.proofs.Workers.{acts-more, acts-none}
-use Rattle.kt_resume.proofs.shard.remake_shard.Goals as goal
-use Rattle.kt_resume.proofs.shard.remake_shard.Goals.{in-Some+in_ok-makes+else-not-branch, in_default}
+use Rattle.kt_resume.proofs.shard.Remade.makes_all.Goals as goal
+use Rattle.kt_resume.proofs.shard.Remade.makes_all.Goals.{in-Some+in_ok-makes+else-not-branch, in_default}
 
 pub returns-then-not-branch-clause-none : goal.returns-then-not-branch-clause-none
 returns-then-not-branch-clause-none c = λ e all legal.
@@ -46,7 +46,7 @@ loop-number-preserved c = elim c.match-act.branch [
       record {
         legal = subst (ShardLog c.args.shards c.args.name new_shard) (sym more)
             (ShardLog-more c.args.shards c.args.name new_shard (acts_at h (take i xs)) w.in-Some.act.now inv.legal makes);
-        like = subst (λ (x : RemadeShard). IsRemade (shard_of_acts new_shard (acts_at h (take (i + 1) xs))) x) (sym w.remade-is)
+        like = subst (λ (x : RemadeShard). IsRemade (shard_of_acts new_shard (acts_at h (take (i + 1) xs))) x) (sym w.self-is)
             (subst (λ (m : MadeShard). IsRemade m w.makes.new.self)
             (sym (ap (shard_of_acts new_shard) more ∙ shard_of_acts-push new_shard (acts_at h (take i xs)) w.in-Some.act.now)) like);
       }
@@ -61,7 +61,7 @@ loop-number-preserved c = elim c.match-act.branch [
       let inv = c.loop-number.invariant in
       record {
         legal = subst (ShardLog c.args.shards c.args.name new_shard) (sym same) inv.legal;
-        like = subst (λ (x : RemadeShard). IsRemade (shard_of_acts new_shard (acts_at h (take (i + 1) xs))) x) (sym w.remade-is)
-            (subst (λ (l : List Act). IsRemade (shard_of_acts new_shard l) c.loop-number.remade) (sym same) inv.like);
+        like = subst (λ (x : RemadeShard). IsRemade (shard_of_acts new_shard (acts_at h (take (i + 1) xs))) x) (sym w.self-is)
+            (subst (λ (l : List Act). IsRemade (shard_of_acts new_shard l) c.loop-number.self) (sym same) inv.like);
       }
 ]

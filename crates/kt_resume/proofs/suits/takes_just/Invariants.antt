@@ -1,5 +1,5 @@
 use Rattle.std.proofs.Common.{◌++◌, take, IsPermutation}
-use Rattle.kt_resume.proofs.suits.has_just.Given as goal
+use Rattle.kt_resume.proofs.suits.takes_just.Given as goal
 
 -- the bag had the tuples that were looked at, and what is left
 abbrev pub invariant-loop-tuple : goal.invariant-loop-tuple
