@@ -58,6 +58,8 @@ fn heard(
     ensures { Plans result (hear (view_of view.entry) store_reads from message.now) }
 {
     let verdict = store_reads.verdict;
+    // What was read is dropped by hand, here and below, which is cheaper to prove
+    // (docs/PERFORMANCE.md#what-makes-a-proof-dear).
     match message {
         Message::App(app) => {
             drop(store_reads);

@@ -19,6 +19,7 @@ const S1: NodeId = NodeId::Shard(1);
 /// A shard, and a worker that puts a tuple and takes one.
 const SCENE: &[u8] = b"linda-kt 1\nshards 1\nworker\nout (7)\nin (?int)\nsteps\nend\n";
 
+/// The scene of that text.
 fn scene(alloc: Global) -> Result<Scene, Fail> {
     match read_scene(alloc, SCENE, WorkKind::Steps) {
         Ok(Scenario { scene, .. }) => Ok(scene),

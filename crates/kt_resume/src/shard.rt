@@ -1,7 +1,8 @@
 //! A shard is made again by the acts of its log.
 //! Cited by leads.rt, suits.rt.
 
-ghost use Rattle.std.specs.Prelude.{◌≡◌, ◌↔◌, ◌≤◌, ◌<◌, All, IfOk, IfSome, IsTrue, Some, None, false, length, replicate};
+ghost use Rattle.std.specs.Prelude.{◌≡◌, ◌↔◌, ◌≤◌, ◌<◌, All, IfOk, IfSome, IsTrue, Some, None, false};
+ghost use Rattle.std.specs.Prelude.{length, replicate};
 ghost use Rattle.kt_history.specs.Closed.{acts_in_log};
 ghost use Rattle.kt_shard.specs.Limits.{sessions};
 ghost use Rattle.kt_tuple.specs.declared.node.NodeId.TheVariants as ids;

@@ -113,6 +113,7 @@ fn report_with(
     }
 }
 
+/// Puts the lines of that report behind what is there.
 fn push_report(
     alloc: Global,
     out: &mut Vec<u8>,

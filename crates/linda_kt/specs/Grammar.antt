@@ -34,54 +34,54 @@ abbrev pub json_rule : Rule
 json_rule = flag_rule (codes "json")
 
 -- a command of this name
-abbrev pub command_of : Text → List Rule → Shape
-command_of name rules = record (new_shape name) { rules = rules }
+abbrev pub command_shape : Text → List Rule → Shape
+command_shape name rules = record (new_shape name) { rules = rules }
 
 -- each command
 abbrev pub replay_shape : Shape
 replay_shape =
-    command_of (codes "replay") (scenario_rule ∷ valued_rule (codes "store") ∷ explain_rule ∷ json_rule ∷ [])
+    command_shape (codes "replay") (scenario_rule ∷ valued_rule (codes "store") ∷ explain_rule ∷ json_rule ∷ [])
 
 abbrev pub run_shape : Shape
 run_shape =
-    command_of (codes "run") (scenario_rule ∷ valued_rule (codes "store") ∷ flag_rule (codes "journal")
+    command_shape (codes "run") (scenario_rule ∷ valued_rule (codes "store") ∷ flag_rule (codes "journal")
     ∷ flag_rule (codes "resume") ∷ valued_rule (codes "times") ∷ valued_rule (codes "chaos")
     ∷ valued_rule (codes "seed") ∷ explain_rule ∷ json_rule ∷ [])
 
 abbrev pub resume_shape : Shape
 resume_shape =
-    command_of (codes "resume") (scenario_rule ∷ wanted_rule (codes "store") ∷ explain_rule ∷ json_rule ∷ [])
+    command_shape (codes "resume") (scenario_rule ∷ wanted_rule (codes "store") ∷ explain_rule ∷ json_rule ∷ [])
 
 abbrev pub migrate_shape : Shape
-migrate_shape = command_of (codes "migrate") (scenario_rule ∷ wanted_rule (codes "store") ∷ [])
+migrate_shape = command_shape (codes "migrate") (scenario_rule ∷ wanted_rule (codes "store") ∷ [])
 
 abbrev pub check_shape : Shape
-check_shape = command_of (codes "check") (scenario_rule ∷ explain_rule ∷ json_rule ∷ [])
+check_shape = command_shape (codes "check") (scenario_rule ∷ explain_rule ∷ json_rule ∷ [])
 
 abbrev pub complete_shape : Shape
-complete_shape = command_of (codes "complete") (scenario_rule ∷ [])
+complete_shape = command_shape (codes "complete") (scenario_rule ∷ [])
 
 abbrev pub trace_shape : Shape
 trace_shape =
-    command_of (codes "trace") (scenario_rule ∷ valued_rule (codes "from") ∷ valued_rule (codes "to")
+    command_shape (codes "trace") (scenario_rule ∷ valued_rule (codes "from") ∷ valued_rule (codes "to")
     ∷ valued_rule (codes "node") ∷ json_rule ∷ [])
 
 abbrev pub draw_shape : Shape
 draw_shape =
-    command_of (codes "draw") (scenario_rule ∷ flag_rule (codes "html") ∷ valued_rule (codes "from")
+    command_shape (codes "draw") (scenario_rule ∷ flag_rule (codes "html") ∷ valued_rule (codes "from")
     ∷ valued_rule (codes "to") ∷ [])
 
 abbrev pub show_shape : Shape
-show_shape = command_of (codes "show") (word_rule (codes "store") ∷ json_rule ∷ [])
+show_shape = command_shape (codes "show") (word_rule (codes "store") ∷ json_rule ∷ [])
 
 abbrev pub explain_shape : Shape
-explain_shape = command_of (codes "explain") (word_rule (codes "meaning") ∷ [])
+explain_shape = command_shape (codes "explain") (word_rule (codes "meaning") ∷ [])
 
 abbrev pub completion_shape : Shape
-completion_shape = command_of (codes "completion") (word_rule (codes "shell") ∷ [])
+completion_shape = command_shape (codes "completion") (word_rule (codes "shell") ∷ [])
 
 abbrev pub manual_shape : Shape
-manual_shape = command_of (codes "manual") []
+manual_shape = command_shape (codes "manual") []
 
 -- in the order of the help
 abbrev pub command_shapes : List Shape

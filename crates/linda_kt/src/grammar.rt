@@ -63,7 +63,8 @@ fn with_arguments<'a>(
     command: clap::Command<'a>,
     arguments: &[ArgumentWords],
 ) -> Result<clap::Command<'a>, AllocError>
-    ensures shape { IfOk result (λ c. shape_of c ≡ with_rules (shape_of command.entry) (map argument_rule arguments.now)) }
+    ensures shape { IfOk result (λ c. shape_of c ≡
+        with_rules (shape_of command.entry) (map argument_rule arguments.now)) }
     ensures local { IfOk result (λ c. (fields_of c).has_globals ≡ (fields_of command.entry).has_globals) }
 {
     let mut command = command;
@@ -79,7 +80,8 @@ fn with_options<'a>(
     command: clap::Command<'a>,
     options: &[OptionWords],
 ) -> Result<clap::Command<'a>, AllocError>
-    ensures shape { IfOk result (λ c. shape_of c ≡ with_rules (shape_of command.entry) (map option_rule options.now)) }
+    ensures shape { IfOk result (λ c. shape_of c ≡
+        with_rules (shape_of command.entry) (map option_rule options.now)) }
     ensures local { IfOk result (λ c. (fields_of c).has_globals ≡ (fields_of command.entry).has_globals) }
 {
     let mut command = command;

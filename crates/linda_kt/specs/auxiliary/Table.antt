@@ -8,7 +8,7 @@ use Rattle.kt_words.specs.Word.{is_word}
 use Rattle.kt_words.specs.declared.words.ArgumentWords.{ArgumentWords}
 use Rattle.kt_words.specs.declared.words.CommandWords.{CommandWords}
 use Rattle.kt_words.specs.declared.words.OptionWords.{OptionWords}
-use Rattle.linda_kt.specs.Grammar.{command_of, place_rule}
+use Rattle.linda_kt.specs.Grammar.{command_shape, place_rule}
 
 -- an argument has its place and no name
 abbrev pub argument_rule : ArgumentWords → Rule
@@ -28,7 +28,7 @@ with_rules s rules = record s { rules = s.rules ++ rules }
 
 -- a command of the table
 abbrev pub table_shape : CommandWords → Shape
-table_shape c = command_of c.name.now (map argument_rule c.arguments.now ++ map option_rule c.options.now)
+table_shape c = command_shape c.name.now (map argument_rule c.arguments.now ++ map option_rule c.options.now)
 
 -- with a command of the table; `clap` has the command `help` of itself
 abbrev pub with_listed : App → CommandWords → App

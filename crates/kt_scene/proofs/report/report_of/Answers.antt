@@ -15,4 +15,5 @@ returns-in-Ok g c =
     reported c.args.world.now.is_honest c.args.world.now.state.history c.args.permanent.now c.in-Ok.space.tuples c.deref-in-Ok.result.now
     c.lost_count-lost.result text.items
     (c.deref-in-Ok.ensures.value ∙ found) (c.lost_count-lost.ensures.count ∙ ap lost_count notes)
-    (λ honest. let held = c.history-history.ensures.headline honest in (held.survivors.tuples, held.survivors.one_run)) leads appended) c.report_with-text.ensures
+    (λ honest. let held = c.history-history.ensures.headline honest in (held.survivors.tuples, held.survivors.one_run)) leads appended)
+    c.report_with-text.ensures

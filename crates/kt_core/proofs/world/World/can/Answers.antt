@@ -9,7 +9,8 @@ use Rattle.kt_core.proofs.world.World.can.Goals as goal
 pub returns-clause-value : goal.returns-clause-value
 returns-clause-value g c =
     let s = state_of c.self.inside.machine (g.S.CkptStore.content c.self.inside.store) in
-    let P : WorldModel → Type 0 = λ old. IsTrue (g.S.CkptStore.is_honest c.read_store.new.store) → not c.is_refused-refused.result ≡ is_enabled old.state c.args.step in
+    let P : WorldModel → Type 0 = λ old. IsTrue (g.S.CkptStore.is_honest c.read_store.new.store)
+    → not c.is_refused-refused.result ≡ is_enabled old.state c.args.step in
     subst P c.self.view_is (λ h. ap not c.is_refused-refused.ensures
     ∙ enabled c.plan-step_plan.result _ (subst (Gives c.plan-step_plan.result) (owner_plan-step_plan s c.args.step c.in_ok-store_reads.store_reads
     (asked s c.args.step c.in_ok-store_reads.store_reads c.read_set-read_set.result c.owner.result
