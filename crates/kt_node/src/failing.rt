@@ -113,25 +113,18 @@ fn restarting_plan(
     }) }
 {
     match restarting(alloc, role, loaded.sent(), next, incarnation) {
-        Ok((ballot, send)) => loading_plan(alloc, loaded.rolling(ballot), send),
+        Ok((ballot, send)) => match Change::loading(alloc, loaded.rolling(ballot)) {
+            Ok(change) => Ok(Plan::writing(change, send, Write::BeginRestart)),
+            Err(error) => {
+                drop(send);
+                Err(error)
+            }
+        },
         Err(error) => {
             drop(loaded);
             Err(error)
         }
     }
-}
-
-/// The node becomes this one, and says this.
-fn loading_plan(alloc: Global, loaded: Loaded, send: Outbox) -> Result<Plan, AllocError>
-    ensures { IfOk result (λ p. p ≡ record {
-      change = Load loaded;
-      send = send;
-      note = None;
-      write = Some BeginRestart;
-    }) }
-{
-    let change = Change::loading(alloc, loaded)?;
-    Ok(Plan::writing(change, send, Write::BeginRestart))
 }
 
 impl View<'_> {

@@ -59,14 +59,6 @@ pub(crate) fn held_learns(alloc: Global, yes: bool, send: Outbox) -> Result<Plan
     Ok(Plan::writing(Change::turning(alloc, update)?, send, write))
 }
 
-/// The rollback got No, which goes on to these: the node goes on as it is.
-fn release_plan(alloc: Global, instance: u64, asked: &[NodeId]) -> Result<Plan, Refusal>
-    ensures { Gives result (Ok (release_plan (verdict_to instance false asked.now))) }
-{
-    let send = verdict_to(alloc, instance, false, asked)?;
-    Ok(Plan::of(alloc, Update::to(Phase::Up), send, None)?)
-}
-
 /// The rollback got Yes, which is passed on to these: the node becomes this one, and its log keeps so many acts.
 fn restoring_plan(
     alloc: Global,
@@ -109,7 +101,10 @@ impl View<'_> {
         if yes {
             self.restores(alloc, stored, instance, asked)
         } else {
-            release_plan(alloc, instance, asked)
+            // It goes on as it is.
+            drop(stored);
+            let send = verdict_to(alloc, instance, false, asked)?;
+            Ok(Plan::of(alloc, Update::to(Phase::Up), send, None)?)
         }
     }
 

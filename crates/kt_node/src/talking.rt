@@ -66,22 +66,6 @@ impl View<'_> {
         NodeId::Shard(op.signature().shard_of(self.role.peers))
     }
 
-    /// The worker asks for this.
-    fn asks(
-        self,
-        alloc: Global,
-        live: &Live,
-        to: NodeId,
-        request: &Request,
-    ) -> Result<Outbox, AllocError>
-        requires { CanCount (live_view live.now) }
-        ensures { IfOk result (λ send. send ≡
-            (to, app_of (view_of self.entry) (live_view live.now) (Asked request.now)) ∷ []) }
-    {
-        let talk = Talk::Request(request.copy(alloc)?);
-        Outbox::one(alloc, to, self.app(live, talk))
-    }
-
     /// What a worker says that asks for this, and the note of it.
     fn asking(
         self,
@@ -100,7 +84,8 @@ impl View<'_> {
           note_of self.entry.role.id 0 (node_number self.entry.role.id) request.now what,
         )) }
     {
-        let send = self.asks(alloc, live, self.home(&request.op), request)?;
+        let talk = Talk::Request(request.copy(alloc)?);
+        let send = Outbox::one(alloc, self.home(&request.op), self.app(live, talk))?;
         let note = self.note(alloc, 0, self.role.id.number(), request, what)?;
         Ok((send, note))
     }
