@@ -39,12 +39,19 @@ pub(crate) fn copy_note(alloc: Global, note: &Note) -> Result<Note, AllocError>
 fn copy_act(alloc: Global, act: &Act) -> Result<Act, AllocError>
     ensures { IfOk result (λ a. a ≡ act.now) }
 {
-    Ok(Act {
-        node: act.node,
-        by: act.by,
-        worker: act.worker,
-        number: act.number,
-        op: act.op.copy(alloc)?,
-        what: act.what.copy(alloc)?,
-    })
+    let op = act.op.copy(alloc)?;
+    match act.what.copy(alloc) {
+        Ok(what) => Ok(Act {
+            node: act.node,
+            by: act.by,
+            worker: act.worker,
+            number: act.number,
+            op,
+            what,
+        }),
+        Err(error) => {
+            drop(op);
+            Err(error)
+        }
+    }
 }

@@ -5,13 +5,14 @@ ghost use Rattle.std.specs.Prelude.{◌≡◌, ◌==◌, ◌&&◌, IfOk};
 ghost use Rattle.std.specs.List.{find, flat_map};
 ghost use Rattle.std.specs.Option.{option_copied};
 ghost use Rattle.kt_tuple.specs.Node.{node_eq};
+ghost use Rattle.kt_history.specs.Survival.{lost_count};
 ghost use Rattle.kt_store.specs.Verdict.{is_open};
 ghost use Rattle.kt_store.specs.declared.rows.InstanceRow.{InstanceRow};
 ghost use Rattle.kt_store.specs.declared.rows.NodeRow.{NodeRow};
 ghost use Rattle.kt_trace.specs.Rows.{heard, mode_at, note_since, begun_since, open_instance, tentative_instance};
 ghost use Rattle.kt_trace.specs.Rows.{ruling_by, saving_by, verdict_at};
 ghost use Rattle.kt_scenario.specs.Step.{owner};
-ghost use Rattle.kt_trace.specs.auxiliary.Glimpses.{glimpse_of, new_on, row_from};
+ghost use Rattle.kt_trace.specs.auxiliary.Glimpses.{glimpse_of, new_on, row_from, ways_from};
 
 use crate::copying::{copy_message, copy_note};
 use crate::traced::{Ruling, Saving, TracedStep};
@@ -56,21 +57,39 @@ impl Glimpse {
     ) -> Result<Glimpse, AllocError>
         ensures { IfOk result (λ g. g ≡ glimpse_of world.now.state step) }
     {
+        let ways = Ways::of(alloc, world, step.owner())?;
+        match heard(alloc, world, step) {
+            Ok(message) => Ok(Glimpse::of_parts(world, step, ways, message)),
+            Err(error) => {
+                drop(ways);
+                Err(error)
+            }
+        }
+    }
+
+    /// A look at the world before this step, with these messages on their way and this one brought by the step.
+    fn of_parts(
+        world: &World<MemStore>,
+        step: Step,
+        ways: Ways,
+        message: Option<(NodeId, Message)>,
+    ) -> Glimpse
+        requires ways { ways ≡ ways_from world.now.state (owner step) }
+        requires message { message ≡ heard world.now.state step }
+        ensures { result ≡ glimpse_of world.now.state step }
+    {
         let node = step.owner();
-        let history = world.history();
-        let ways = Ways::of(alloc, world, node)?;
-        let heard = heard(alloc, world, step)?;
-        Ok(Glimpse {
+        Glimpse {
             mode: mode_at(world, node),
             kept: world.kept_len(node),
-            heard,
+            heard: message,
             ways,
-            notes: history.notes().len(),
-            instances: world.store().board().len(),
+            notes: notes_of(world).len(),
+            instances: board_of(world).len(),
             tentative: tentative_instance(world, node),
             pending: open_instance(world, node),
-            lost: history.lost_count(),
-        })
+            lost: lost_of(world),
+        }
     }
 
     /// The row of the step, which led from the world that was looked at to this one.
@@ -131,7 +150,6 @@ impl Glimpse {
         ensures { result ≡ row_from number line step self world.now.state }
     {
         let node = step.owner();
-        let history = world.history();
         let tentative = tentative_instance(world, node);
         let Glimpse {
             mode,
@@ -151,13 +169,36 @@ impl Glimpse {
             keeps: self.kept < world.kept_len(node),
             sent,
             note,
-            notes: history.notes().len() as u64,
+            notes: notes_of(world).len() as u64,
             begun: begun_since(world, self.instances),
             saving: saving_by(world, self.tentative, tentative),
             ruling: ruling_by(world, step, self.pending),
-            undone: history.lost_count().saturating_sub(self.lost),
+            undone: lost_of(world).saturating_sub(self.lost),
         }
     }
+}
+
+// The next three give of what the world promises no more than is needed here, so that proofs have less to read.
+
+/// What happened so far.
+fn notes_of(world: &World<MemStore>) -> &[Note]
+    ensures { result.now ≡ world.now.state.history }
+{
+    world.history().notes()
+}
+
+/// How many services do not survive.
+fn lost_of(world: &World<MemStore>) -> u64
+    ensures { result ≡ lost_count world.now.state.history }
+{
+    world.history().lost_count()
+}
+
+/// The instances that were begun.
+fn board_of(world: &World<MemStore>) -> &[InstanceRow]
+    ensures { result.now ≡ world.now.state.content.board }
+{
+    world.store().board()
 }
 
 /// The node's mode: a node that is not there is down.
@@ -199,7 +240,7 @@ fn note_since(
 ) -> Result<Option<Note>, AllocError>
     ensures { IfOk result (λ note. note ≡ note_since notes world.now.state) }
 {
-    match world.history().notes().get(notes) {
+    match notes_of(world).get(notes) {
         Some(note) => Ok(Some(copy_note(alloc, note)?)),
         None => Ok(None),
     }
@@ -209,7 +250,7 @@ fn note_since(
 fn begun_since(world: &World<MemStore>, instances: usize) -> Option<u64>
     ensures { result ≡ begun_since instances world.now.state }
 {
-    match world.store().board().get(instances) {
+    match board_of(world).get(instances) {
         Some(row) => Some(row.instance),
         None => None,
     }
@@ -239,7 +280,7 @@ fn row_at(rows: &[NodeRow], node: NodeId) -> Option<&NodeRow>
 fn open_instance(world: &World<MemStore>, node: NodeId) -> Option<u64>
     ensures { result ≡ open_instance world.now.state.content node }
 {
-    match open_at(world.store().board(), node) {
+    match open_at(board_of(world), node) {
         Some(row) => Some(row.instance),
         None => None,
     }
@@ -259,7 +300,7 @@ fn open_at(board: &[InstanceRow], node: NodeId) -> Option<&InstanceRow>
 fn verdict_at(world: &World<MemStore>, instance: u64) -> Verdict
     ensures { result ≡ verdict_at world.now.state.content instance }
 {
-    match instance_at(world.store().board(), instance) {
+    match instance_at(board_of(world), instance) {
         Some(row) => row.verdict,
         None => Verdict::Open,
     }

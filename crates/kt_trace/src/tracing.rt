@@ -46,7 +46,10 @@ pub fn world_of(alloc: Global, scene: Scene) -> Result<World<MemStore>, AllocErr
     match World::open(alloc, scene, MemStore::new(alloc)) {
         Ok(world) => Ok(world),
         // A fresh store in memory refuses for want of memory alone.
-        Err(_) => Err(AllocError),
+        Err(refused) => {
+            drop(refused);
+            Err(AllocError)
+        }
     }
 }
 
