@@ -5,7 +5,6 @@ ghost use Rattle.std.specs.Prelude.{◌≡◌, ◌==◌, ◌&&◌, IfOk};
 ghost use Rattle.std.specs.List.{find, flat_map};
 ghost use Rattle.std.specs.Option.{option_copied};
 ghost use Rattle.kt_tuple.specs.Node.{node_eq};
-ghost use Rattle.kt_history.specs.Survival.{lost_count};
 ghost use Rattle.kt_store.specs.Verdict.{is_open};
 ghost use Rattle.kt_store.specs.declared.rows.InstanceRow.{InstanceRow};
 ghost use Rattle.kt_store.specs.declared.rows.NodeRow.{NodeRow};
@@ -15,6 +14,7 @@ ghost use Rattle.kt_scenario.specs.Step.{owner};
 ghost use Rattle.kt_trace.specs.auxiliary.Glimpses.{glimpse_of, new_on, row_from, ways_from};
 
 use crate::copying::{copy_message, copy_note};
+use crate::reading::{board_of, kept_len, link_at, lost_of, notes_of, store_of};
 use crate::traced::{Ruling, Saving, TracedStep};
 use crate::ways::Ways;
 use kt_core::World;
@@ -81,7 +81,7 @@ impl Glimpse {
         let node = step.owner();
         Glimpse {
             mode: mode_at(world, node),
-            kept: world.kept_len(node),
+            kept: kept_len(world, node),
             heard: message,
             ways,
             notes: notes_of(world).len(),
@@ -166,7 +166,7 @@ impl Glimpse {
             was: mode,
             is: mode_at(world, node),
             heard,
-            keeps: self.kept < world.kept_len(node),
+            keeps: self.kept < kept_len(world, node),
             sent,
             note,
             notes: notes_of(world).len() as u64,
@@ -176,29 +176,6 @@ impl Glimpse {
             undone: lost_of(world).saturating_sub(self.lost),
         }
     }
-}
-
-// The next three give of what the world promises no more than is needed here, so that proofs have less to read.
-
-/// What happened so far.
-fn notes_of(world: &World<MemStore>) -> &[Note]
-    ensures { result.now ≡ world.now.state.history }
-{
-    world.history().notes()
-}
-
-/// How many services do not survive.
-fn lost_of(world: &World<MemStore>) -> u64
-    ensures { result ≡ lost_count world.now.state.history }
-{
-    world.history().lost_count()
-}
-
-/// The instances that were begun.
-fn board_of(world: &World<MemStore>) -> &[InstanceRow]
-    ensures { result.now ≡ world.now.state.content.board }
-{
-    world.store().board()
 }
 
 /// The node's mode: a node that is not there is down.
@@ -220,7 +197,7 @@ fn heard(
     ensures { IfOk result (λ h. h ≡ heard world.now.state step) }
 {
     match step {
-        Step::Deliver { from, to } => match world.link_at(from, to, 0) {
+        Step::Deliver { from, to } => match link_at(world, from, to, 0) {
             Some(message) => Ok(Some((from, copy_message(alloc, message)?))),
             None => Ok(None),
         },
@@ -260,7 +237,7 @@ fn begun_since(world: &World<MemStore>, instances: usize) -> Option<u64>
 fn tentative_instance(world: &World<MemStore>, node: NodeId) -> Option<u64>
     ensures { result ≡ tentative_instance world.now.state.content node }
 {
-    match row_at(world.store().rows(), node) {
+    match row_at(store_of(world).rows(), node) {
         Some(row) => match &row.tentative {
             Some(tentative) => Some(tentative.instance),
             None => None,

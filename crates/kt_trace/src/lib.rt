@@ -9,6 +9,7 @@
 
 mod copying;
 mod glimpse;
+mod reading;
 mod traced;
 mod tracing;
 mod ways;

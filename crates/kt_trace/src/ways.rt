@@ -6,6 +6,7 @@ ghost use Rattle.std.specs.List.{flat_map};
 ghost use Rattle.kt_trace.specs.auxiliary.Glimpses.{new_on, way_to, ways_from};
 
 use crate::copying::copy_message;
+use crate::reading::{link_at, link_len};
 use kt_core::World;
 use kt_state::Outbox;
 use kt_store::MemStore;
@@ -70,7 +71,7 @@ fn counts_to(
 {
     let mut counts = Vec::new(alloc);
     for to in nodes {
-        counts.push((*to, world.link_len(from, *to)))?;
+        counts.push((*to, link_len(world, from, *to)))?;
     }
     Ok(counts)
 }
@@ -86,10 +87,10 @@ fn add_from(
 ) -> Result<(), AllocError>
     ensures { OnOk result (sent.new ≡ sent.old ++ new_on world.now.state from (to, place)) }
 {
-    if world.link_len(from, to) <= place {
+    if link_len(world, from, to) <= place {
         return Ok(());
     }
-    match world.link_at(from, to, place) {
+    match link_at(world, from, to, place) {
         Some(message) => {
             sent.add(to, copy_message(alloc, message)?)?;
             add_from(alloc, sent, world, from, to, place + 1)
