@@ -1,17 +1,17 @@
 //! How each check and each rollback ended, in words.
 //! Cited by ending.rt.
 
-use crate::names::{MAX_TOLD, Name, push_rest};
+use crate::names::{MAX_TOLD, Part, push_parts, push_rest};
 use kt_core::Step;
 use kt_store::{InstanceRow, Verdict};
+use kt_tuple::NodeId;
 use std::alloc::AllocError;
-use std::fmt::Write;
 
 /// What begins an instance: a check or a rollback, and of which node; `None` where the step begins none.
-fn begun_by(step: Step) -> Option<(&'static str, Name)> {
+fn begun_by(step: Step) -> Option<(&'static [u8], NodeId)> {
     match step {
-        Step::Check { node } => Some(("check", Name(node))),
-        Step::Restart { node } => Some(("rollback", Name(node))),
+        Step::Check { node } => Some((b"  the check that ", node)),
+        Step::Restart { node } => Some((b"  the rollback that ", node)),
         _ => None,
     }
 }
@@ -30,7 +30,7 @@ pub(crate) fn begun_count(steps: &[Step]) -> usize {
 /// Puts a line for each check and each rollback, the first ones alone where there are many. The board has a row for
 /// each, in the order in which they were begun.
 pub(crate) fn push_checks(
-    out: &mut String,
+    out: &mut Vec<u8>,
     steps: &[Step],
     board: &[InstanceRow],
 ) -> Result<(), AllocError> {
@@ -39,19 +39,41 @@ pub(crate) fn push_checks(
         if told == MAX_TOLD {
             break;
         }
-        if let (Some((kind, name)), Some(row)) = (begun_by(*step), board.get(told)) {
-            let number = place.saturating_add(1);
-            let verdict = match row.verdict {
-                Verdict::Open => "is open",
-                Verdict::Yes => "got Yes",
-                Verdict::No => "got No",
-            };
-            writeln!(
+        if let (Some((words, node)), Some(row)) = (begun_by(*step), board.get(told)) {
+            push_check(
                 out,
-                "  the {kind} that {name} began (step {number}) {verdict}"
+                words,
+                node,
+                place.saturating_add(1) as u64,
+                row.verdict,
             )?;
             told = told.saturating_add(1);
         }
     }
     push_rest(out, begun_count(steps))
+}
+
+/// A line that begins with these words, on what the node began by the step of this number.
+fn push_check(
+    out: &mut Vec<u8>,
+    words: &[u8],
+    node: NodeId,
+    number: u64,
+    verdict: Verdict,
+) -> Result<(), AllocError> {
+    let end: &[u8] = match verdict {
+        Verdict::Open => b") is open\n",
+        Verdict::Yes => b") got Yes\n",
+        Verdict::No => b") got No\n",
+    };
+    push_parts(
+        out,
+        &[
+            Part::Text(words),
+            Part::Name(node),
+            Part::Text(b" began (step "),
+            Part::Number(number),
+            Part::Text(end),
+        ],
+    )
 }

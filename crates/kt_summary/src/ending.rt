@@ -7,8 +7,9 @@ use crate::lost::{makers_of, push_losses};
 use crate::remaking::{Remade, remake};
 use crate::workers::push_workers;
 use kt_core::{Step, World};
+use kt_history::History;
 use kt_store::CkptStore;
-use kt_text::{Scenario, SceneError, SceneFault, WorkKind, read_scene};
+use kt_text::{Scenario, SceneError, SceneFault, Work, WorkKind, read_scene};
 use std::alloc::{AllocError, Global};
 
 /// The scenario that the text spells with work of this kind; `None` where it spells none. `AllocError` where memory is
@@ -33,50 +34,79 @@ fn remade_of_steps(
     steps: &[Step],
 ) -> Result<Option<Remade>, AllocError> {
     match scenario_of(alloc, text, WorkKind::Steps)? {
-        Some(Scenario { scene, .. }) => remake(alloc, scene, steps),
+        Some(Scenario { scene, work }) => {
+            drop(work);
+            remake(alloc, scene, steps)
+        }
         None => Ok(None),
     }
 }
 
-/// The lines on what was lost and how checks ended, with what the steps lead to where that is known.
-fn push_lost_and_checks<S: CkptStore>(
+/// The lines on fault lines, where this is a scenario of some, and the steps made once more from the opening of the
+/// text's scene.
+fn push_run(
     alloc: Global,
-    out: &mut String,
-    world: &World<S>,
+    out: &mut Vec<u8>,
+    text: &[u8],
+    steps: &[Step],
+) -> Result<Option<Remade>, AllocError> {
+    match scenario_of(alloc, text, WorkKind::Faults)? {
+        Some(Scenario { scene, work }) => {
+            let pushed = push_work(alloc, out, text, &work, steps);
+            drop(work);
+            match pushed {
+                Ok(()) => remake(alloc, scene, steps),
+                Err(error) => {
+                    drop(scene);
+                    Err(error)
+                }
+            }
+        }
+        None => remade_of_steps(alloc, text, steps),
+    }
+}
+
+/// The lines on fault lines, where the work is some.
+fn push_work(
+    alloc: Global,
+    out: &mut Vec<u8>,
+    text: &[u8],
+    work: &Work,
+    steps: &[Step],
+) -> Result<(), AllocError> {
+    match work {
+        Work::Faults(faults) => push_faults(alloc, out, text, faults, steps),
+        Work::Steps(_) => Ok(()),
+    }
+}
+
+/// The lines on what was lost and how checks ended, with what the steps lead to where that is known.
+fn push_lost_and_checks(
+    alloc: Global,
+    out: &mut Vec<u8>,
+    history: &History,
     steps: &[Step],
     again: Option<&Remade>,
 ) -> Result<(), AllocError> {
-    let history = world.history();
-    let Some(Remade { store, makers }) = again else {
-        push_losses(alloc, out, history, steps, &[])?;
-        if 0 < begun_count(steps) {
-            out.push_str("  how checks ended is not told of a world that was resumed\n")?;
+    match again {
+        Some(remade) => {
+            let makers = makers_of(history.notes(), &remade.makers);
+            push_losses(alloc, out, history, steps, makers)?;
+            push_checks(out, steps, remade.store.board())
         }
-        return Ok(());
-    };
-    push_losses(
-        alloc,
-        out,
-        history,
-        steps,
-        makers_of(history.notes(), makers),
-    )?;
-    push_checks(out, steps, store.board())
+        None => {
+            push_losses(alloc, out, history, steps, &[])?;
+            push_untold(out, begun_count(steps))
+        }
+    }
 }
 
-/// The lines on fault lines, and the steps made once more from the opening of this scenario of fault lines.
-fn push_run(
-    alloc: Global,
-    out: &mut String,
-    text: &[u8],
-    scenario: Scenario,
-    steps: &[Step],
-) -> Result<Option<Remade>, AllocError> {
-    let Scenario { scene, work } = scenario;
-    if let Some(faults) = work.into_faults() {
-        push_faults(alloc, out, text, &faults, steps)?;
+/// Says that so many checks and rollbacks are not told of, where there are any.
+fn push_untold(out: &mut Vec<u8>, count: usize) -> Result<(), AllocError> {
+    if count == 0 {
+        return Ok(());
     }
-    remake(alloc, scene, steps)
+    out.extend_from_slice(b"  how checks ended is not told of a world that was resumed\n")
 }
 
 /// What the world came to that these steps led to, which the text spells or whose run under its fault lines found them:
@@ -90,19 +120,27 @@ pub fn explain_end<S: CkptStore>(
     world: &World<S>,
     steps: &[Step],
 ) -> Result<Vec<u8>, AllocError> {
-    let mut out = String::new(alloc);
-    push_workers(alloc, &mut out, world)?;
-    let again = match scenario_of(alloc, text, WorkKind::Faults)? {
-        Some(scenario) => push_run(alloc, &mut out, text, scenario, steps)?,
-        None => remade_of_steps(alloc, text, steps)?,
-    };
-    let pushed = push_lost_and_checks(alloc, &mut out, world, steps, again.as_ref());
-    drop(again);
-    match pushed {
-        Ok(()) => Ok(out.into_bytes()),
+    let mut out = Vec::new(alloc);
+    match push_end(alloc, &mut out, text, world, steps) {
+        Ok(()) => Ok(out),
         Err(error) => {
             drop(out);
             Err(error)
         }
     }
+}
+
+/// Those lines.
+fn push_end<S: CkptStore>(
+    alloc: Global,
+    out: &mut Vec<u8>,
+    text: &[u8],
+    world: &World<S>,
+    steps: &[Step],
+) -> Result<(), AllocError> {
+    push_workers(alloc, out, world)?;
+    let again = push_run(alloc, out, text, steps)?;
+    let pushed = push_lost_and_checks(alloc, out, world.history(), steps, again.as_ref());
+    drop(again);
+    pushed
 }

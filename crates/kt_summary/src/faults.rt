@@ -1,40 +1,67 @@
 //! Which fault lines struck, in words.
 //! Cited by ending.rt.
 
-use crate::names::{MAX_TOLD, Name, push_rest};
+use crate::names::{Part, push_parts, push_rest, told};
 use crate::strikes::{FaultEnd, struck};
 use kt_core::{FaultKind, Faults, Step};
 use kt_text::line_at;
 use std::alloc::{AllocError, Global};
-use std::fmt::Write;
 
 /// Puts a line for each fault line, the first ones alone where there are many.
 pub(crate) fn push_faults(
     alloc: Global,
-    out: &mut String,
+    out: &mut Vec<u8>,
     text: &[u8],
     faults: &Faults,
     steps: &[Step],
 ) -> Result<(), AllocError> {
     let found = struck(alloc, faults, steps)?;
-    for (place, struck) in found.iter().enumerate().take(MAX_TOLD) {
+    let pushed = push_ends(out, text, &found);
+    drop(found);
+    pushed
+}
+
+/// Those lines, of what came of the fault lines.
+fn push_ends(out: &mut Vec<u8>, text: &[u8], found: &[FaultEnd]) -> Result<(), AllocError> {
+    for (place, struck) in told(found).iter().enumerate() {
         push_fault(out, line_of_fault(text, place), *struck)?;
     }
     push_rest(out, found.len())
 }
 
 /// The line, and by which step it struck.
-fn push_fault(out: &mut String, line: usize, struck: FaultEnd) -> Result<(), AllocError> {
+fn push_fault(out: &mut Vec<u8>, line: usize, struck: FaultEnd) -> Result<(), AllocError> {
     let FaultEnd { fault, by } = struck;
-    let word = match fault.kind {
-        FaultKind::Fail => "fail",
-        FaultKind::Check => "check",
+    let word: &[u8] = match fault.kind {
+        FaultKind::Fail => b": fail ",
+        FaultKind::Check => b": check ",
     };
-    let (name, after) = (Name(fault.node), fault.after);
-    write!(out, "  line {line}: {word} {name} after {after}: ")?;
+    push_parts(
+        out,
+        &[
+            Part::Text(b"  line "),
+            Part::Number(line as u64),
+            Part::Text(word),
+            Part::Name(fault.node),
+            Part::Text(b" after "),
+            Part::Number(fault.after),
+        ],
+    )?;
+    push_by(out, by)
+}
+
+/// The step that a fault line struck by, to the end of the line.
+fn push_by(out: &mut Vec<u8>, by: Option<u64>) -> Result<(), AllocError> {
     match by {
-        None => out.push_str("never came due\n"),
-        Some(number) => writeln!(out, "struck by step {number}"),
+        None => out.extend_from_slice(b": never came due\n"),
+        Some(number) => push_parts(
+            out,
+            &[
+                Part::Text(b": struck by step "),
+                Part::Number(number),
+                Part::Text(b"\n"),
+            ],
+        ),
     }
 }
 

@@ -2,14 +2,19 @@
 //! each check and each rollback got.
 //! Cited by ending.rt.
 
-ghost use Rattle.std.specs.Prelude.{◌≡◌, ◌≢◌, [], IfOk, IfSome, IsNone, IsTrue, Ok};
+ghost use Rattle.std.specs.Prelude.{◌≡◌, ◌≢◌, [], IfErr, IfOk, IfSome, IsNone, IsTrue, Ok, OnOk};
+ghost use Rattle.kt_model.specs.Effect.{step_result};
+ghost use Rattle.kt_model.specs.Headline.{IsNoted};
 ghost use Rattle.kt_model.specs.Reached.{opening};
 ghost use Rattle.kt_model.specs.State.{State};
+ghost use Rattle.kt_model.specs.StepPlan.{step_plan};
+ghost use Rattle.kt_core.specs.Stepping.{Refuses};
 ghost use Rattle.kt_stage.specs.Journal.{all_made};
 ghost use Rattle.kt_summary.specs.Remade.{AreMakers, IsRemade};
 ghost use Rattle.kt_summary.specs.auxiliary.Wants.{is_want};
 
 use kt_core::{Scene, Step, StepError, World};
+use kt_history::Note;
 use kt_store::MemStore;
 use std::alloc::{AllocError, Global};
 
@@ -31,13 +36,7 @@ pub fn remake(alloc: Global, scene: Scene, steps: &[Step]) -> Result<Option<Rema
     ensures none { IfOk result (λ x. IsNone x
         → (s : State) → all_made (opening scene) steps.now ≢ Ok s) }
 {
-    let mut world = match World::open(alloc, scene, MemStore::new(alloc)) {
-        Ok(world) => world,
-        Err(refused) => {
-            drop(refused);
-            return Err(AllocError);
-        }
-    };
+    let mut world = world_of(alloc, scene)?;
     match make_all(alloc, &mut world, steps) {
         Ok(Some(makers)) => {
             let store = world.into_store();
@@ -50,6 +49,21 @@ pub fn remake(alloc: Global, scene: Scene, steps: &[Step]) -> Result<Option<Rema
         Err(error) => {
             drop(world);
             Err(error)
+        }
+    }
+}
+
+/// A world of this scene over a store in memory, in which no step was made yet.
+fn world_of(alloc: Global, scene: Scene) -> Result<World<MemStore>, AllocError>
+    ensures state { IfOk result (λ world. world.state ≡ opening scene) }
+    ensures honest { IfOk result (λ world. IsTrue world.is_honest) }
+{
+    match World::open(alloc, scene, MemStore::new(alloc)) {
+        Ok(world) => Ok(world),
+        // A fresh store in memory refuses for want of memory alone.
+        Err(refused) => {
+            drop(refused);
+            Err(AllocError)
         }
     }
 }
@@ -77,16 +91,34 @@ fn make_all(
 {
     let mut makers = Vec::new(alloc);
     for (place, step) in steps.iter().enumerate() {
-        if let Err(cause) = world.step(alloc, *step) {
+        if let Err(cause) = make(alloc, world, *step) {
             return if is_want(cause) {
                 Err(AllocError)
             } else {
                 Ok(None)
             };
         }
-        if makers.len() < world.history().notes().len() {
+        if makers.len() < notes_of(world).len() {
             makers.push(place as u64 + 1)?;
         }
     }
     Ok(Some(makers))
+}
+
+/// Makes the step. Of what the world promises of it these clauses say what is needed here.
+fn make(alloc: Global, world: &mut World<MemStore>, step: Step) -> Result<(), StepError>
+    requires honest { IsTrue world.old.is_honest }
+    ensures honest { IsTrue world.new.is_honest }
+    ensures made { OnOk result (step_result world.old.state step ≡ Ok world.new.state) }
+    ensures refusal { IfErr result (λ e. Refuses e (step_plan world.old.state step)) }
+    ensures noted { OnOk result (IsNoted world.old.state step world.new.state) }
+{
+    world.step(alloc, step)
+}
+
+/// What happened so far.
+fn notes_of(world: &World<MemStore>) -> &[Note]
+    ensures { result.now ≡ world.now.state.history }
+{
+    world.history().notes()
 }

@@ -3,10 +3,10 @@
 
 ghost use Rattle.std.specs.Prelude.{◌≡◌, ◌++◌, IfOk, OnOk};
 ghost use Rattle.std.specs.List.{flat_map};
-ghost use Rattle.std.specs.Option.{option_copied};
-ghost use Rattle.kt_core.specs.Lent.{shard};
-ghost use Rattle.kt_stage.specs.Policy.{waits_in};
-ghost use Rattle.kt_summary.specs.Waits.{all_waits, end_up, number_waiting, wait_at, waits_of, worker_end};
+ghost use Rattle.std.specs.Option.{option_copied, option_map};
+ghost use Rattle.kt_core.specs.Lent.{shard, worker};
+ghost use Rattle.kt_stage.specs.Policy.{unanswered, waits_in};
+ghost use Rattle.kt_summary.specs.Waits.{all_waits, end_in, end_up, number_waiting, wait_at, waits_of, worker_end};
 
 use kt_core::{Script, World};
 use kt_node::Mode;
@@ -60,9 +60,18 @@ fn end_up(script: &Script, worker: &Worker) -> WorkerEnd
 pub fn worker_end<S: CkptStore>(world: &World<S>, node: NodeId) -> Option<WorkerEnd>
     ensures { result ≡ worker_end world.now.state node }
 {
-    let script = world.scene().script_of(node)?;
-    match world.mode(node)? {
-        Mode::Up => Some(end_up(script, world.worker(node)?)),
+    match world.scene().script_of(node) {
+        Some(script) => end_in(script, world.worker(node), world.mode(node)?),
+        None => None,
+    }
+}
+
+/// How a worker with this script stands in this mode; it is there while it is up.
+fn end_in(script: &Script, worker: Option<&Worker>, mode: Mode) -> Option<WorkerEnd>
+    ensures { result ≡ end_in script.now (option_copied worker.entry) mode }
+{
+    match mode {
+        Mode::Up => Some(end_up(script, worker?)),
         Mode::Held => Some(WorkerEnd::Held),
         Mode::Rolling => Some(WorkerEnd::Rolling),
         Mode::Down => Some(WorkerEnd::Down),
@@ -82,11 +91,18 @@ fn waits_in<S: CkptStore>(world: &World<S>, node: NodeId, worker: u8, number: u6
     }
 }
 
+/// The number and the operation of the worker's unanswered request.
+pub(crate) fn request_of<S: CkptStore>(world: &World<S>, node: NodeId) -> Option<(u64, &Op)>
+    ensures { option_map (λ r. (r.0, r.1.now)) result ≡ unanswered (worker world.now.state node) }
+{
+    world.worker(node)?.again()
+}
+
 /// The number of the worker's unanswered request, where the shard holds that as waiting.
 fn number_waiting<S: CkptStore>(world: &World<S>, worker: NodeId, shard: NodeId) -> Option<u64>
     ensures { result ≡ number_waiting world.now.state worker shard }
 {
-    let (number, op) = world.worker(worker)?.again()?;
+    let (number, op) = request_of(world, worker)?;
     if waits_in(world, shard, worker.number(), number, op) {
         Some(number)
     } else {

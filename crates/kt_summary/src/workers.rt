@@ -1,101 +1,121 @@
 //! Who finished and who waits, in words.
 //! Cited by ending.rt.
 
-use crate::names::{Name, push_op};
-use crate::waits::{Wait, WorkerEnd, waiting, worker_end};
+use crate::names::{Part, push_parts};
+use crate::waits::{Wait, WorkerEnd, request_of, waiting, worker_end};
 use kt_core::World;
 use kt_store::CkptStore;
-use kt_tuple::{ALL_WORKERS, NodeId};
+use kt_tuple::{ALL_WORKERS, NodeId, Op};
 use std::alloc::{AllocError, Global};
-use std::fmt::Write;
 
 /// Puts a line for those that finished, and one for each other worker.
 pub(crate) fn push_workers<S: CkptStore>(
     alloc: Global,
-    out: &mut String,
+    out: &mut Vec<u8>,
     world: &World<S>,
 ) -> Result<(), AllocError> {
-    push_finished(out, world)?;
+    push_finished(out, world, &ALL_WORKERS)?;
     let waits = waiting(alloc, world)?;
-    let pushed = push_others(alloc, out, world, &waits);
+    let pushed = push_others(out, world, &ALL_WORKERS, &waits);
     drop(waits);
     pushed
 }
 
-/// Puts a line for each worker that did not finish.
+/// Puts a line for each of these workers that did not finish.
 fn push_others<S: CkptStore>(
-    alloc: Global,
-    out: &mut String,
+    out: &mut Vec<u8>,
     world: &World<S>,
+    workers: &[NodeId],
     waits: &[Wait],
 ) -> Result<(), AllocError> {
-    for worker in ALL_WORKERS {
-        let name = Name(worker);
-        match worker_end(world, worker) {
-            None | Some(WorkerEnd::Finished) => {}
-            Some(WorkerEnd::Waiting) => push_waiting(alloc, out, world, worker, waits)?,
-            Some(WorkerEnd::Ready) => writeln!(out, "  {name} did not ask for its next operation")?,
-            Some(WorkerEnd::Held) => {
-                writeln!(
-                    out,
-                    "  {name} is held: it waits for the verdict on its tentative checkpoint"
-                )?;
-            }
-            Some(WorkerEnd::Rolling) => writeln!(
-                out,
-                "  {name} rolls back, and waits for the verdict"
-            )?,
-            Some(WorkerEnd::Down) => writeln!(out, "  {name} is down")?,
-        }
+    for worker in workers {
+        let end = worker_end(world, *worker);
+        push_other(out, *worker, end, request_of(world, *worker), waits)?;
     }
     Ok(())
 }
 
-/// Names the workers that finished, where there are any.
-fn push_finished<S: CkptStore>(out: &mut String, world: &World<S>) -> Result<(), AllocError> {
+/// Puts a line for the worker that stands so and has this unanswered request, where it did not finish.
+fn push_other(
+    out: &mut Vec<u8>,
+    worker: NodeId,
+    end: Option<WorkerEnd>,
+    request: Option<(u64, &Op)>,
+    waits: &[Wait],
+) -> Result<(), AllocError> {
+    let how: &[u8] = match end {
+        None | Some(WorkerEnd::Finished) => return Ok(()),
+        Some(WorkerEnd::Waiting) => return push_waiting(out, worker, request, waits),
+        Some(WorkerEnd::Ready) => b" did not ask for its next operation\n",
+        Some(WorkerEnd::Held) =>
+            b" is held: it waits for the verdict on its tentative checkpoint\n",
+        Some(WorkerEnd::Rolling) => b" rolls back, and waits for the verdict\n",
+        Some(WorkerEnd::Down) => b" is down\n",
+    };
+    push_parts(
+        out,
+        &[Part::Text(b"  "), Part::Name(worker), Part::Text(how)],
+    )
+}
+
+/// Names those of these workers that finished, where there are any.
+fn push_finished<S: CkptStore>(
+    out: &mut Vec<u8>,
+    world: &World<S>,
+    workers: &[NodeId],
+) -> Result<(), AllocError> {
     let mut is_first = true;
-    for worker in ALL_WORKERS {
-        if worker_end(world, worker) == Some(WorkerEnd::Finished) {
-            out.push_str(if is_first { "  finished: " } else { ", " })?;
-            let name = Name(worker);
-            write!(out, "{name}")?;
+    for worker in workers {
+        if matches!(worker_end(world, *worker), Some(WorkerEnd::Finished)) {
+            let before: &[u8] = if is_first { b"  finished: " } else { b", " };
+            push_parts(out, &[Part::Text(before), Part::Name(*worker)])?;
             is_first = false;
         }
     }
-    if !is_first {
-        out.push('\n')?;
+    if is_first {
+        Ok(())
+    } else {
+        out.extend_from_slice(b"\n")
     }
-    Ok(())
 }
 
-/// What the worker waits for, and at which shards.
-fn push_waiting<S: CkptStore>(
-    alloc: Global,
-    out: &mut String,
-    world: &World<S>,
+/// What the worker waits for, its unanswered request, and at which shards.
+fn push_waiting(
+    out: &mut Vec<u8>,
     worker: NodeId,
+    request: Option<(u64, &Op)>,
     waits: &[Wait],
 ) -> Result<(), AllocError> {
-    let Some((number, op)) = world.worker(worker).and_then(|worker| worker.again()) else {
+    let Some((number, op)) = request else {
         return Ok(());
     };
-    let name = Name(worker);
-    write!(
+    push_parts(
         out,
-        "  {name} waits for the answer to its request {number}, "
+        &[
+            Part::Text(b"  "),
+            Part::Name(worker),
+            Part::Text(b" waits for the answer to its request "),
+            Part::Number(number),
+            Part::Text(b", "),
+            Part::Op(op),
+        ],
     )?;
-    push_op(alloc, out, op)?;
+    push_shards(out, worker, waits)
+}
+
+/// At which shards the worker waits, to the end of the line.
+fn push_shards(out: &mut Vec<u8>, worker: NodeId, waits: &[Wait]) -> Result<(), AllocError> {
     let mut is_held = false;
     for wait in waits {
         if wait.worker == worker {
-            let shard = Name(wait.shard);
-            write!(out, ", at {shard}")?;
+            push_parts(out, &[Part::Text(b", at "), Part::Name(wait.shard)])?;
             is_held = true;
         }
     }
-    out.push_str(if is_held {
-        "\n"
+    let end: &[u8] = if is_held {
+        b"\n"
     } else {
-        ", which no shard holds as waiting\n"
-    })
+        b", which no shard holds as waiting\n"
+    };
+    out.extend_from_slice(end)
 }

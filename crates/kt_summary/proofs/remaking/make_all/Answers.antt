@@ -9,7 +9,7 @@ use Rattle.kt_scenario.specs.declared.step.Step.TheVariants.{Issue}
 use Rattle.kt_summary.proofs.Making.{MadeUpTo, made_none, made_noted, made_silent, none_made}
 use Rattle.kt_summary.proofs.remaking.make_all.Goals as goal
 use Rattle.kt_summary.proofs.remaking.make_all.Goals.{then-is_want, else-is_want}
-use Rattle.kt_summary.proofs.remaking.make_all.Goals.{then-len-notes+in_ok-push, else-len-notes}
+use Rattle.kt_summary.proofs.remaking.make_all.Goals.{then-len-notes_of+in_ok-push, else-len-notes_of}
 
 pub loop-place-init : goal.loop-place-init
 loop-place-init c =
@@ -26,12 +26,11 @@ returns-in-Err-clause-none c =
     let place = c.loop-place.place in
     let step : Step = get_or steps place (Issue (Worker 0)) in
     let at : step ≡ get_or steps place step = get_or_default steps place (Issue (Worker 0)) step c.loop-place-test.true in
-    let honest = c.step.ensures.lasts (λ store. refl) c.loop-place.invariant.honest in
     elim c.if-is_want.branch [
       | then-is_want w ↦ rw w.result-is tt
       | else-is_want w ↦ rw w.result-is (λ is_none.
           none_made c.args.world.now.state steps place c.loop-place.world.state step c.in-Err.cause c.loop-place.makers.items
-          c.loop-place-test.true at (sym c.is_want.ensures ∙ w.if-is_want.false) (c.in-Err.ensures.refusal honest)
+          c.loop-place-test.true at (sym c.is_want.ensures ∙ w.if-is_want.false) c.in-Err.ensures.refusal
           c.loop-place.invariant.made)
     ]
 
@@ -42,27 +41,26 @@ loop-place-preserved c =
     let place = c.loop-place.place in
     let was = c.loop-place.makers in
     let s = c.loop-place.world.state in
-    let new = c.step.new.self.state in
+    let new = c.make.new.world.state in
     let step : Step = get_or steps place (Issue (Worker 0)) in
     let at : step ≡ get_or steps place step = get_or_default steps place (Issue (Worker 0)) step c.loop-place-test.true in
-    let honest = c.step.ensures.lasts (λ store. refl) c.loop-place.invariant.honest in
-    let led = c.in_default.ensures.effect honest in
-    let noted = (c.in_default.ensures.noted honest).one_note in
-    let long = ap (λ (h : List Note). length h) (c.notes.ensures.notes ∙ c.history.ensures.value) in
+    let led = c.in_default.ensures.made in
+    let noted = c.in_default.ensures.noted.one_note in
+    let long = ap (λ (h : List Note). length h) c.notes_of.ensures in
     let items : Vec ℕ Global → List ℕ = λ v. v.items in
     let P : List ℕ → Type 0 = λ makers. MadeUpTo first steps (place + 1) new makers in
     record {
-      honest = honest;
-      made = elim c.if-len-notes.branch [
-        | then-len-notes+in_ok-push w ↦
+      honest = c.make.ensures.honest;
+      made = elim c.if-len-notes_of.branch [
+        | then-len-notes_of+in_ok-push w ↦
             let longer : length was.items < length new.history =
-            omega (arith, w.if-len-notes.true, long, c.len.ensures, was.ok.0) in
+            omega (arith, w.if-len-notes_of.true, long, c.len.ensures, was.ok.0) in
             subst P (sym (ap items w.makers-is ∙ w.in_ok-push.ensures.items))
             (made_noted first steps place (place + 1) s new step was.items c.loop-place-test.true at refl led noted longer
             c.loop-place.invariant.made)
-        | else-len-notes w ↦
+        | else-len-notes_of w ↦
             let short : length was.items < length new.history → ⊥ = λ longer.
-            omega (arith, w.if-len-notes.false, long, c.len.ensures, was.ok.0, longer) in
+            omega (arith, w.if-len-notes_of.false, long, c.len.ensures, was.ok.0, longer) in
             subst P (sym (ap items w.makers-is))
             (made_silent first steps place s new step was.items c.loop-place-test.true at led noted short c.loop-place.invariant.made)
       ];
