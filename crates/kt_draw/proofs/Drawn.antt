@@ -1,5 +1,5 @@
 -- Rows that are drawn one below the other.
--- Cited by `picture::rows_from`, `picture::text_of`, `row::push_rows`.
+-- Cited by `picture::push_between`, `picture::rows_from`, `row::push_rows`.
 use Rattle.std.proofs.Common.{◌≡◌, ℕ, ◌+◌, ◌<◌, ◌≤◌, Bool, true, false, List, [], ◌∷◌, ◌++◌, length, get_or, take, drop, refl, sym, ap, ◌∙◌, subst, arith}
 use Rattle.std.proofs.Common.{append_assoc, append-nil}
 use Rattle.std.specs.Prelude.{min, nat_le}

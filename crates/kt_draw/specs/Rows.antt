@@ -1,6 +1,6 @@
 -- How the rows of a picture are drawn: one below the other, each with its number and its mark.
 -- Cited by Drawn, Said, picture.rt, row.rt, sheet.rt, specs/auxiliary/Behind, `picture::picture_of`,
---   `picture::text_of`, `row::push_row`, `row::push_rows`, `row::row_text`; other crates.
+--   `picture::push_between`, `row::push_row`, `row::push_rows`, `row::row_text`; other crates.
 use Rattle.std.specs.Prelude.{◌≡◌, ℕ, ◌+◌, ◌-◌, ◌*◌, Bool, true, false, List, [], ◌∷◌, ◌++◌, codes, decimal, drop}
 use Rattle.std.specs.Prelude.{length, max, min, if◌then◌else◌}
 use Rattle.kt_tuple.specs.declared.node.NodeId.{NodeId}

@@ -1,5 +1,5 @@
 //! The elements of a picture as text, each on a line of its own. Numbers are pixels.
-//! Cited by band.rt, legend.rt, life.rt, picture.rt, row.rt, sheet.rt, way.rt.
+//! Cited by band.rt, foot.rt, head.rt, legend.rt, life.rt, picture.rt, row.rt, sheet.rt, way.rt.
 
 ghost use Rattle.std.specs.Prelude.{◌≡◌, ◌++◌, OnOk};
 ghost use Rattle.kt_draw.specs.Elements.{box_text, element, label_text, line_text, number_attribute};

@@ -12,9 +12,12 @@
 mod band;
 mod element;
 mod escape;
+mod foot;
+mod head;
 mod laws;
 mod legend;
 mod life;
+mod part;
 mod picture;
 mod plane;
 mod row;

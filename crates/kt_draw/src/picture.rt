@@ -1,27 +1,25 @@
 //! The whole picture, from its root element to the end of that.
-//! Cited by other crates.
+//! Cited by head.rt; other crates.
 
-ghost use Rattle.std.specs.Prelude.{◌≡◌, IfOk, OnOk, length, min};
+ghost use Rattle.std.specs.Prelude.{◌≡◌, [], IfOk, OnOk, length, min};
 ghost use Rattle.kt_draw.specs.Rows.{HasRows, HasRowsOn, picture_head, rows_from};
 
 use crate::band::{push_bands, push_rules};
-use crate::element::{Point, push_label, push_use};
+use crate::element::Point;
+use crate::foot::{NOTHING, push_end, push_moved};
+use crate::head::{push_head, push_root};
 use crate::legend::{ENTRIES, Flow, LINE, Symbol, push_entry};
 use crate::life::{Stretch, crossed, mode_before, push_boxes, push_life};
-use crate::plane::{Plane, ROW};
-use crate::row::{push_rows, push_step_number};
+use crate::part::whole;
+use crate::plane::Plane;
+use crate::row::push_rows;
 use crate::sheet::{MARGIN, NODES, Sheet};
-use crate::style::STYLE;
-use crate::title::{refused_text, tally_of, title_of};
+use crate::title::refused_text;
 use crate::way::push_arrow;
 use kt_story::{Arrow, Story, arrows, words_of};
 use kt_trace::TracedStep;
 use kt_tuple::NodeId;
-use kt_tuple::writing::push_number;
 use std::alloc::{AllocError, Global};
-
-/// What is said where there is no row.
-const NOTHING: &[u8] = b"no step was made";
 
 /// All that a picture is drawn of.
 #[derive(Drop)]
@@ -89,23 +87,47 @@ fn sheet_of(
     ensures shards { IfOk result (λ sheet. sheet.plane.shards ≡ story.now.state.scene.shards) }
     ensures rows { IfOk result (λ sheet. sheet.plane.rows ≡ min (length rows.now) 4294967295) }
 {
-    let mut longest = if rows.is_empty() {
-        NOTHING.len() as u64
-    } else {
-        0
-    };
-    for row in rows {
-        longest = words_of(alloc, story, row)?.count().max(longest);
-    }
-    if let Some(refused) = story.refused() {
-        longest = (refused_text(alloc, refused)?.len() as u64).max(longest);
-    }
+    let longest = longest_of(alloc, story, rows)?;
     Ok(Sheet {
         plane: Plane::new(story.workers(), story.shards(), rows.len()),
         first,
         has_end: story.refused().is_some() || rows.is_empty(),
         longest,
     })
+}
+
+/// How many characters the longest text of a row has, or of the line below the rows.
+fn longest_of(alloc: Global, story: &Story, rows: &[TracedStep]) -> Result<u64, AllocError> {
+    let mut longest = end_length(alloc, story, rows)?;
+    for row in rows {
+        longest = row_length(alloc, story, row)?.max(longest);
+    }
+    Ok(longest)
+}
+
+fn row_length(alloc: Global, story: &Story, row: &TracedStep) -> Result<u64, AllocError> {
+    let words = words_of(alloc, story, row)?;
+    let length = words.count();
+    drop(words);
+    Ok(length)
+}
+
+/// How many characters stand below the rows, and at least those that are said where there is none.
+fn end_length(alloc: Global, story: &Story, rows: &[TracedStep]) -> Result<u64, AllocError> {
+    let nothing = if rows.is_empty() {
+        NOTHING.len() as u64
+    } else {
+        0
+    };
+    match story.refused() {
+        Some(refused) => {
+            let text = refused_text(alloc, refused)?;
+            let length = text.len() as u64;
+            drop(text);
+            Ok(length.max(nothing))
+        }
+        None => Ok(nothing),
+    }
 }
 
 fn all_crossed(
@@ -179,15 +201,89 @@ fn text_of(
         HasRowsOn (picture_head form) drawing.now.sheet story.now rows.now text.items) }
 {
     let (legend, last) = legend_of(alloc, story, rows, drawing)?;
-    let height = last.saturating_add(LINE);
+    let text = text_with(
+        alloc,
+        story,
+        rows,
+        drawing,
+        &legend,
+        last.saturating_add(LINE),
+        form,
+    );
+    drop(legend);
+    text
+}
+
+/// The picture with this legend, so high.
+fn text_with(
+    alloc: Global,
+    story: &Story,
+    rows: &[TracedStep],
+    drawing: &Drawing,
+    legend: &[(Point, Symbol, &'static str)],
+    height: u64,
+    form: Form,
+) -> Result<Vec<u8>, AllocError>
+    ensures { IfOk result (λ text.
+        HasRowsOn (picture_head form) drawing.now.sheet story.now rows.now text.items) }
+{
     let front = before_rows(alloc, story, rows, drawing, height, form)?;
-    let behind = behind_rows(alloc, story, drawing, &legend, form)?;
+    match behind_rows(alloc, story, drawing, legend, form) {
+        Ok(behind) => {
+            let text = text_between(alloc, story, rows, drawing.sheet, &front, &behind, form);
+            drop(behind);
+            drop(front);
+            text
+        }
+        Err(error) => {
+            drop(front);
+            Err(error)
+        }
+    }
+}
+
+/// The picture with this before and behind its rows.
+fn text_between(
+    alloc: Global,
+    story: &Story,
+    rows: &[TracedStep],
+    sheet: Sheet,
+    front: &[u8],
+    behind: &[u8],
+    form: Form,
+) -> Result<Vec<u8>, AllocError>
+    ensures { IfOk result (λ text.
+        HasRowsOn (picture_head form) sheet story.now rows.now text.items) }
+{
     let mut out = Vec::new(alloc);
+    match push_between(alloc, &mut out, story, rows, sheet, front, behind, form) {
+        Ok(()) => Ok(out),
+        Err(error) => {
+            drop(out);
+            Err(error)
+        }
+    }
+}
+
+/// Puts that behind an empty text.
+fn push_between(
+    alloc: Global,
+    out: &mut Vec<u8>,
+    story: &Story,
+    rows: &[TracedStep],
+    sheet: Sheet,
+    front: &[u8],
+    behind: &[u8],
+    form: Form,
+) -> Result<(), AllocError>
+    requires { out.old.items ≡ [] }
+    ensures { OnOk result (HasRowsOn (picture_head form) sheet story.now rows.now out.new.items) }
+{
     out.extend_from_slice(picture_head(form))?;
-    out.extend_from_slice(&front)?;
-    push_rows(alloc, &mut out, drawing.sheet, story, rows)?;
-    out.extend_from_slice(&behind)?;
-    Ok(out)
+    out.extend_from_slice(front)?;
+    push_rows(alloc, out, sheet, story, rows)?;
+    out.extend_from_slice(behind)?;
+    Ok(())
 }
 
 /// How the picture begins.
@@ -209,28 +305,57 @@ fn before_rows(
     height: u64,
     form: Form,
 ) -> Result<Vec<u8>, AllocError> {
-    let sheet = drawing.sheet;
-    let title = title_of(alloc, story, sheet.first)?;
-    let tally = tally_of(alloc, story)?;
     let mut out = Vec::new(alloc);
-    push_root(&mut out, sheet, height, form)?;
-    push_names(&mut out, &title, &tally)?;
-    push_ground(&mut out, sheet, height)?;
-    push_label(&mut out, b"t b", Point { x: MARGIN, y: 20 }, &title)?;
-    push_label(&mut out, b"t", Point { x: MARGIN, y: 40 }, &tally)?;
-    push_rules(&mut out, sheet)?;
-    for (node, stretches) in &drawing.crossed {
-        push_boxes(&mut out, sheet, *node, stretches)?;
+    let pushed = push_before(alloc, &mut out, story, rows, drawing, height, form);
+    whole(out, pushed)
+}
+
+fn push_before(
+    alloc: Global,
+    out: &mut Vec<u8>,
+    story: &Story,
+    rows: &[TracedStep],
+    drawing: &Drawing,
+    height: u64,
+    form: Form,
+) -> Result<(), AllocError> {
+    let sheet = drawing.sheet;
+    push_root(out, sheet, height, form)?;
+    push_head(alloc, out, story, sheet, height)?;
+    push_rules(out, sheet)?;
+    push_lives(
+        out,
+        sheet,
+        rows,
+        rows_before(story, sheet),
+        &drawing.crossed,
+    )?;
+    push_arrows(out, sheet, &drawing.arrows)?;
+    push_bands(out, sheet)
+}
+
+/// The boxes of what the nodes lost, and before them their lines, in the modes that `before` leads to and `rows` go on.
+fn push_lives(
+    out: &mut Vec<u8>,
+    sheet: Sheet,
+    rows: &[TracedStep],
+    before: &[TracedStep],
+    crossed: &[(NodeId, Vec<Stretch>)],
+) -> Result<(), AllocError> {
+    for (node, stretches) in crossed {
+        push_boxes(out, sheet, *node, stretches)?;
     }
-    for (node, _) in &drawing.crossed {
-        let before = mode_before(rows_before(story, sheet), *node);
-        push_life(&mut out, sheet, rows, *node, before)?;
+    for (node, _) in crossed {
+        push_life(out, sheet, rows, *node, mode_before(before, *node))?;
     }
-    for arrow in &drawing.arrows {
-        push_arrow(&mut out, sheet, arrow)?;
+    Ok(())
+}
+
+fn push_arrows(out: &mut Vec<u8>, sheet: Sheet, arrows: &[Arrow]) -> Result<(), AllocError> {
+    for arrow in arrows {
+        push_arrow(out, sheet, arrow)?;
     }
-    push_bands(&mut out, sheet)?;
-    Ok(out)
+    Ok(())
 }
 
 /// What stands behind the rows: how they end, what a script moves, and the legend.
@@ -242,103 +367,25 @@ fn behind_rows(
     form: Form,
 ) -> Result<Vec<u8>, AllocError> {
     let mut out = Vec::new(alloc);
-    push_end(alloc, &mut out, drawing.sheet, story)?;
-    match form {
-        Form::Alone => {}
-        Form::InPage => push_moved(&mut out, drawing.sheet)?,
-    }
-    for (at, symbol, text) in legend {
-        push_entry(&mut out, *at, *symbol, text.as_bytes())?;
-    }
-    out.extend_from_slice(b"</svg>\n")?;
-    Ok(out)
+    let pushed = push_behind(alloc, &mut out, story, drawing.sheet, legend, form);
+    whole(out, pushed)
 }
 
-/// The rest of the root element's begin.
-fn push_root(out: &mut Vec<u8>, sheet: Sheet, height: u64, form: Form) -> Result<(), AllocError> {
-    let width = sheet.width();
-    match form {
-        Form::Alone => {
-            out.extend_from_slice(b" id=\"picture\" width=\"")?;
-            push_number(out, width)?;
-            out.extend_from_slice(b"\" height=\"")?;
-            push_number(out, height)?;
-            out.push(b'"')?;
-        }
-        Form::InPage => {
-            out.extend_from_slice(b" id=\"picture\" style=\"width:")?;
-            push_number(out, width / 16)?;
-            out.extend_from_slice(b"em\"")?;
-        }
-    }
-    out.extend_from_slice(b" viewBox=\"0 0 ")?;
-    push_number(out, width)?;
-    out.push(b' ')?;
-    push_number(out, height)?;
-    out.extend_from_slice(b"\" role=\"img\" aria-labelledby=\"picture-title picture-text\">\n")
-}
-
-/// What a reader of screens says of the picture.
-fn push_names(out: &mut Vec<u8>, title: &[u8], tally: &[u8]) -> Result<(), AllocError> {
-    out.extend_from_slice(b"<title id=\"picture-title\">")?;
-    out.extend_from_slice(title)?;
-    out.extend_from_slice(b"</title>\n<desc id=\"picture-text\">")?;
-    out.extend_from_slice(tally)?;
-    out.extend_from_slice(
-        b". A column for each node, a row for each step; time goes down.</desc>\n",
-    )
-}
-
-/// The style and the symbols, and the ground.
-fn push_ground(out: &mut Vec<u8>, sheet: Sheet, height: u64) -> Result<(), AllocError> {
-    for line in STYLE {
-        out.extend_from_slice(line.as_bytes())?;
-    }
-    out.extend_from_slice(b"<rect class=\"p\" width=\"")?;
-    push_number(out, sheet.width())?;
-    out.extend_from_slice(b"\" height=\"")?;
-    push_number(out, height)?;
-    out.extend_from_slice(b"\"/>\n")
-}
-
-/// The boxes that a script moves, without a height until then.
-fn push_moved(out: &mut Vec<u8>, sheet: Sheet) -> Result<(), AllocError> {
-    let width = sheet.width();
-    out.extend_from_slice(b"<rect id=\"later\" class=\"p\" fill-opacity=\".6\" width=\"")?;
-    push_number(out, width)?;
-    out.extend_from_slice(b"\" height=\"0\" data-row=\"")?;
-    push_number(out, ROW)?;
-    out.extend_from_slice(b"\" data-end=\"")?;
-    push_number(out, sheet.bottom())?;
-    out.extend_from_slice(
-        b"\"/>\n<rect id=\"here\" class=\"o sc\" stroke-width=\"2\" x=\"1\" width=\"",
-    )?;
-    push_number(out, width.saturating_sub(2))?;
-    out.extend_from_slice(b"\" height=\"0\"/>\n")
-}
-
-/// Below the rows: that there is none, or the step that was refused, which ended the story.
-fn push_end(
+fn push_behind(
     alloc: Global,
     out: &mut Vec<u8>,
-    sheet: Sheet,
     story: &Story,
+    sheet: Sheet,
+    legend: &[(Point, Symbol, &'static str)],
+    form: Form,
 ) -> Result<(), AllocError> {
-    let y = sheet.rows_bottom().saturating_add(ROW - 4);
-    if let Some(refused) = story.refused() {
-        let x = sheet.text_x();
-        push_step_number(out, refused.number, y)?;
-        let mark = Point {
-            x: x.saturating_sub(14),
-            y: y.saturating_sub(4),
-        };
-        push_use(out, b"gone", mark)?;
-        return push_label(out, b"t", Point { x, y }, &refused_text(alloc, refused)?);
+    push_end(alloc, out, sheet, story)?;
+    match form {
+        Form::Alone => {}
+        Form::InPage => push_moved(out, sheet)?,
     }
-    if sheet.plane.rows == 0 {
-        let x = sheet.text_x();
-        push_label(out, b"q", Point { x, y }, NOTHING)
-    } else {
-        Ok(())
+    for (at, symbol, text) in legend {
+        push_entry(out, *at, *symbol, text.as_bytes())?;
     }
+    out.extend_from_slice(b"</svg>\n")
 }

@@ -1,6 +1,6 @@
 //! Where things stand in a picture, in pixels: a column for each node, a row for each step, and bands with the names of
 //! the nodes among the rows.
-//! Cited by band.rt, life.rt, picture.rt, row.rt, sheet.rt, way.rt; other crates.
+//! Cited by band.rt, foot.rt, life.rt, picture.rt, row.rt, sheet.rt, way.rt; other crates.
 
 ghost use Rattle.std.specs.Prelude.{◌≡◌, ◌≤◌, ◌^◌, min};
 ghost use Rattle.kt_draw.specs.declared.plane.TheConstants.{NARROWEST, WIDEST};

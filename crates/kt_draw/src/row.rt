@@ -1,5 +1,5 @@
 //! The rows of a picture: the number of the step, its mark in the node's column, and what is said of it.
-//! Cited by legend.rt, picture.rt.
+//! Cited by foot.rt, legend.rt, picture.rt.
 
 ghost use Rattle.std.specs.Prelude.{◌≡◌, ◌++◌, IfOk, OnOk};
 ghost use Rattle.kt_story.specs.Story.{act_is_lost};

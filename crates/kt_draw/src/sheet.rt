@@ -1,5 +1,5 @@
 //! The sheet that a picture is drawn on: its plane, its rows, and its size.
-//! Cited by band.rt, legend.rt, life.rt, picture.rt, row.rt, way.rt.
+//! Cited by band.rt, foot.rt, head.rt, legend.rt, life.rt, picture.rt, row.rt, way.rt.
 
 ghost use Rattle.std.specs.Prelude.{◌≡◌, ◌≤◌, ◌^◌};
 ghost use Rattle.kt_draw.specs.Rows.{above, point, text_x};

@@ -2,7 +2,7 @@
 //!
 //! Colours are given twice, for a light and for a dark ground. Of each pair the text has a contrast of at least 4.5 to
 //! what it stands on, and all else of at least 3.
-//! Cited by picture.rt.
+//! Cited by head.rt.
 
 /// In order, one behind the other: the style, then the symbols.
 pub(crate) const STYLE: &[&str] = &[

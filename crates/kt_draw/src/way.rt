@@ -2,9 +2,9 @@
 //! Cited by legend.rt, picture.rt.
 
 use crate::element::Point;
+use crate::part::{Part, push_parts};
 use crate::sheet::Sheet;
 use kt_story::{Arrow, Kind};
-use kt_tuple::writing::push_number;
 use std::alloc::AllocError;
 
 /// How far a line stands from the middle of a column, and how long its stub is where the other end is not in the
@@ -75,21 +75,25 @@ fn push_way(
     from: Point,
     to: Point,
 ) -> Result<(), AllocError> {
-    out.extend_from_slice(b"<path class=\"")?;
-    out.extend_from_slice(classes_of(arrow.kind))?;
-    if arrow.lost {
-        out.extend_from_slice(b" l")?;
-    }
-    out.extend_from_slice(more)?;
-    out.extend_from_slice(b"\" d=\"M")?;
-    push_number(out, from.x)?;
-    out.push(b' ')?;
-    push_number(out, from.y)?;
-    out.push(b'L')?;
-    push_number(out, to.x)?;
-    out.push(b' ')?;
-    push_number(out, to.y)?;
-    out.extend_from_slice(b"\"/>\n")
+    let lost: &[u8] = if arrow.lost { b" l" } else { b"" };
+    push_parts(
+        out,
+        &[
+            Part::Text(b"<path class=\""),
+            Part::Text(classes_of(arrow.kind)),
+            Part::Text(lost),
+            Part::Text(more),
+            Part::Text(b"\" d=\"M"),
+            Part::Number(from.x),
+            Part::Text(b" "),
+            Part::Number(from.y),
+            Part::Text(b"L"),
+            Part::Number(to.x),
+            Part::Text(b" "),
+            Part::Number(to.y),
+            Part::Text(b"\"/>\n"),
+        ],
+    )
 }
 
 /// The classes of the line of such a message.
