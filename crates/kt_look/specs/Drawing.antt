@@ -1,5 +1,6 @@
 -- What a text is drawn as, and how the drawing ends, from bytes to bytes.
--- Cited by Drawings, drawing.rt, `drawing::write_drawing`; other crates.
+-- Cited by Drawings, drawing.rt, specs/auxiliary/Drawn, `drawing::put_drawn`, `drawing::write_drawing`,
+--   `drawing::write_drawn`; other crates.
 use Rattle.std.specs.Prelude.{◌≡◌, ℕ, ◌≤◌, ◌<◌, ◌-◌, List, length, take, Option, None, Some, Result, Ok, Err}
 use Rattle.kt_scenario.specs.declared.step.Step.{Step}
 use Rattle.kt_scenario.specs.Scene.{SceneModel}

@@ -1,6 +1,6 @@
 -- What a text is told as, and how the telling of a trace ends, from bytes to bytes.
--- Cited by Tellings, specs/Drawing, specs/auxiliary/Endings, telling.rt, `telling::ending`, `telling::write_trace`;
---   other crates.
+-- Cited by Tellings, specs/Drawing, specs/auxiliary/Endings, telling.rt, `telling::ending`, `telling::tell`,
+--   `telling::write_trace`; other crates.
 use Rattle.std.specs.Prelude.{◌≡◌, ℕ, List, [], ◌∷◌, Result, Ok, Err}
 use Rattle.kt_scenario.specs.declared.step.Step.{Step}
 use Rattle.kt_scenario.specs.Scene.{SceneModel}

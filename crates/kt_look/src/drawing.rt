@@ -6,6 +6,7 @@ ghost use Rattle.kt_model.specs.Reached.{opening};
 ghost use Rattle.kt_story.specs.Story.{IsStoryOf};
 ghost use Rattle.kt_draw.specs.Rows.{HasRows};
 ghost use Rattle.kt_look.specs.Drawing.{EndsDrawing, IsDrawn, IsUndrawn, end_by, head_of};
+ghost use Rattle.kt_look.specs.auxiliary.Drawn.{EndsDrawn, EndsPutting};
 
 use kt_core::{Scene, Step};
 use kt_draw::{Form, MOST_ROWS, picture_of};
@@ -60,13 +61,37 @@ pub fn write_drawing<R: Read, W: Write, O: Observer>(
     ensures ends { EndsDrawing drawing reader.old reader.new writer.old writer.new result }
 {
     match read_text(alloc, reader) {
-        Ok(text) => match drawing_of(alloc, &text, drawing, observer) {
-            Ok(drawn) => match write_text(writer, &drawn.text) {
-                Ok(()) => ending(&drawn.story),
-                Err(fault) => Err(DrawFault::Replay(fault)),
-            },
-            Err(fault) => Err(fault),
-        },
+        Ok(text) => write_drawn(alloc, &text, writer, drawing, observer),
+        Err(fault) => Err(DrawFault::Replay(fault)),
+    }
+}
+
+/// Writes the drawing of the scenario that the text spells.
+fn write_drawn<W: Write, O: Observer>(
+    alloc: Global,
+    text: &[u8],
+    writer: &mut Sink<W>,
+    drawing: Drawing,
+    observer: &mut O,
+) -> Result<(), DrawFault>
+    ensures { EndsDrawn drawing text.now writer.old writer.new result }
+{
+    match drawing_of(alloc, text, drawing, observer) {
+        Ok(drawn) => {
+            let end = put_drawn(writer, &drawn);
+            drop(drawn);
+            end
+        }
+        Err(fault) => Err(fault),
+    }
+}
+
+/// Writes what is drawn, and answers how the steps ended.
+fn put_drawn<W: Write>(writer: &mut Sink<W>, drawn: &Drawn) -> Result<(), DrawFault>
+    ensures { EndsPutting drawn.now.text.items (end_by drawn.now.story.refused) writer.old writer.new result }
+{
+    match write_text(writer, &drawn.text) {
+        Ok(()) => ending(&drawn.story),
         Err(fault) => Err(DrawFault::Replay(fault)),
     }
 }
@@ -87,14 +112,20 @@ fn drawing_of<O: Observer>(
             let steps = steps_to(work.steps(), drawing.to);
             let count = drawn_count(steps, drawing.from);
             if count > MOST_ROWS {
+                drop(scene);
+                drop(work);
                 return Err(DrawFault::TooMany { steps: count });
             }
             match draw(alloc, scene, steps, drawing) {
                 Ok(drawn) => {
                     tell(alloc, text, steps, &drawn.story, observer);
+                    drop(work);
                     Ok(drawn)
                 }
-                Err(AllocError) => Err(DrawFault::Replay(ReplayFault::Memory)),
+                Err(AllocError) => {
+                    drop(work);
+                    Err(DrawFault::Replay(ReplayFault::Memory))
+                }
             }
         }
         Err(fault) => {
@@ -130,8 +161,13 @@ fn draw(alloc: Global, scene: Scene, steps: &[Step], drawing: Drawing) -> Result
     match drawing.kind {
         Kind::Picture => {
             let story = Story::of(alloc, scene, steps)?;
-            let text = picture_of(alloc, &story, drawing.from, Form::Alone)?;
-            Ok(Drawn { story, text })
+            match picture_of(alloc, &story, drawing.from, Form::Alone) {
+                Ok(text) => Ok(Drawn { story, text }),
+                Err(error) => {
+                    drop(story);
+                    Err(error)
+                }
+            }
         }
         Kind::Page => page_of(alloc, scene, steps, drawing.from),
     }
@@ -139,13 +175,10 @@ fn draw(alloc: Global, scene: Scene, steps: &[Step], drawing: Drawing) -> Result
 
 /// Tells the observer how the steps ended.
 fn tell<O: Observer>(alloc: Global, text: &[u8], steps: &[Step], story: &Story, observer: &mut O) {
+    let world = story.world();
     match ending(story) {
-        Err(DrawFault::Replay(fault)) => {
-            observer.stopped(alloc, text, story.world(), steps, fault);
-        }
-        Err(DrawFault::TooMany { .. }) | Ok(()) => {
-            observer.ended(alloc, text, story.world(), steps);
-        }
+        Err(DrawFault::Replay(fault)) => observer.stopped(alloc, text, world, steps, fault),
+        Err(DrawFault::TooMany { .. }) | Ok(()) => observer.ended(alloc, text, world, steps),
     }
 }
 

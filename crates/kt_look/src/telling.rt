@@ -2,7 +2,9 @@
 //! Cited by other crates.
 
 ghost use Rattle.std.specs.Prelude.{◌≡◌, IfErr, IfOk};
-ghost use Rattle.kt_look.specs.Told.{EndsTrace, IsTold, IsUntold, end_by, end_of, form_text, told_text};
+ghost use Rattle.kt_model.specs.Reached.{opening};
+ghost use Rattle.kt_trace.specs.Rows.{trace_from};
+ghost use Rattle.kt_look.specs.Told.{EndsTrace, IsTold, IsUntold, end_by, end_of, form_text, told_text, trace_of};
 ghost use Rattle.kt_look.specs.auxiliary.Endings.{EndsTelling, EndsWriting};
 
 use kt_scenario::{Scene, Step};
@@ -25,7 +27,7 @@ pub enum Form {
 }
 
 /// The bytes of a trace, and how the steps ended.
-#[derive(Debug, Drop)]
+#[derive(Drop)]
 struct Telling {
     text: Vec<u8>,
     end: Result<(), ReplayFault>,
@@ -93,8 +95,14 @@ fn told<O: Observer>(
         Ok(scenario) => {
             let Scenario { scene, work } = scenario;
             match tell(alloc, text, scene, work.steps(), form, choice, observer) {
-                Ok(told) => Ok(told),
-                Err(AllocError) => Err(ReplayFault::Memory),
+                Ok(told) => {
+                    drop(work);
+                    Ok(told)
+                }
+                Err(AllocError) => {
+                    drop(work);
+                    Err(ReplayFault::Memory)
+                }
             }
         }
         Err(fault) => {
@@ -118,16 +126,78 @@ fn tell<O: Observer>(
     ensures text { IfOk result (λ told. told.text.items ≡ told_text form choice text.now scene steps.now) }
     ensures end { IfOk result (λ told. told.end ≡ end_of text.now scene steps.now) }
 {
-    let lines = step_lines(alloc, text)?;
-    let mut world = world_of(alloc, scene)?;
-    let entries = trace_on(alloc, &mut world, steps, &lines)?;
-    let end = ending(&entries);
-    match end {
-        Ok(()) => observer.ended(alloc, text, &world, steps),
-        Err(fault) => observer.stopped(alloc, text, &world, steps, fault),
+    let entries = trace_of(alloc, text, scene, steps, observer)?;
+    let telling = telling_of(alloc, form, &entries, choice);
+    drop(entries);
+    telling
+}
+
+/// The trace of these steps, each with its line of the text.
+fn trace_of<O: Observer>(
+    alloc: Global,
+    text: &[u8],
+    scene: Scene,
+    steps: &[Step],
+    observer: &mut O,
+) -> Result<Vec<Traced>, AllocError>
+    ensures { IfOk result (λ entries. entries.items ≡ trace_of text.now scene steps.now) }
+{
+    match step_lines(alloc, text) {
+        Ok(lines) => {
+            let entries = trace_with(alloc, text, scene, steps, &lines, observer);
+            drop(lines);
+            entries
+        }
+        Err(error) => {
+            drop(scene);
+            Err(error)
+        }
     }
-    let text = form_text(alloc, form, &entries, choice)?;
-    Ok(Telling { text, end })
+}
+
+/// The same, where the lines of the steps are known. The observer is told how the steps ended.
+fn trace_with<O: Observer>(
+    alloc: Global,
+    text: &[u8],
+    scene: Scene,
+    steps: &[Step],
+    lines: &[u64],
+    observer: &mut O,
+) -> Result<Vec<Traced>, AllocError>
+    ensures { IfOk result (λ entries. entries.items ≡ trace_from lines.now 1 (opening scene) steps.now) }
+{
+    let mut world = world_of(alloc, scene)?;
+    match trace_on(alloc, &mut world, steps, lines) {
+        Ok(entries) => {
+            match ending(&entries) {
+                Ok(()) => observer.ended(alloc, text, &world, steps),
+                Err(fault) => observer.stopped(alloc, text, &world, steps, fault),
+            }
+            drop(world);
+            Ok(entries)
+        }
+        Err(error) => {
+            drop(world);
+            Err(error)
+        }
+    }
+}
+
+/// What is told of these entries, and how the steps ended.
+fn telling_of(
+    alloc: Global,
+    form: Form,
+    entries: &[Traced],
+    choice: Choice,
+) -> Result<Telling, AllocError>
+    ensures text { IfOk result (λ told. told.text.items ≡ form_text form choice entries.now) }
+    ensures end { IfOk result (λ told. told.end ≡ end_by entries.now) }
+{
+    let text = form_text(alloc, form, entries, choice)?;
+    Ok(Telling {
+        text,
+        end: ending(entries),
+    })
 }
 
 /// The entries that are chosen, in this form.

@@ -1,5 +1,5 @@
 -- A picture within a page.
--- Cited by `page::page`.
+-- Cited by `page::page_with`.
 use Rattle.std.proofs.Common.{◌≡◌, ℕ, List, ◌++◌, append_assoc, ap, sym, ◌∙◌}
 use Rattle.kt_story.specs.Story.{StoryModel}
 use Rattle.kt_draw.specs.Rows.{HasRows}

@@ -1,13 +1,13 @@
 //! What became of each service and of each check and rollback, up to a step.
 //! Cited by page.rt, table.rt.
 
+use crate::parts::{Part, text_of};
 use kt_cells::add_text;
 use kt_core::Step;
 use kt_history::{Act, Note, What};
-use kt_story::{Story, push_count, push_reason, push_service};
+use kt_story::{Story, push_reason, push_service};
 use kt_trace::TracedStep;
-use kt_tuple::writing::push_number;
-use kt_tuple::{Answer, NodeId};
+use kt_tuple::{Answer, NodeId, Op};
 use std::alloc::{AllocError, Global};
 
 /// A service.
@@ -50,67 +50,76 @@ pub(crate) struct Fates {
 impl Fates {
     /// Those of the story.
     pub fn of(alloc: Global, story: &Story) -> Result<Fates, AllocError> {
-        let mut services = Vec::new(alloc);
-        let mut instances = Vec::new(alloc);
-        for row in story.rows() {
-            if let Some(Note::Act(act)) = &row.note {
-                if let What::Served(answer) = &act.what {
-                    services.push(fate_of(alloc, story, row, act, answer)?)?;
-                }
-            }
-            if let Some(instance) = row.begun {
-                instances.push(Begun {
-                    instance,
-                    is_check: matches!(row.step, Step::Check { .. }),
-                    node: row.node,
-                    step: row.number,
-                    ruled: ruled(story, instance),
-                })?;
+        let mut fates = Fates {
+            services: Vec::new(alloc),
+            instances: Vec::new(alloc),
+        };
+        match fates.find(alloc, story) {
+            Ok(()) => Ok(fates),
+            Err(error) => {
+                drop(fates);
+                Err(error)
             }
         }
-        Ok(Fates {
-            services,
-            instances,
-        })
+    }
+
+    /// Puts those of the story behind the others.
+    fn find(&mut self, alloc: Global, story: &Story) -> Result<(), AllocError> {
+        for row in story.rows() {
+            push_fate(alloc, &mut self.services, story, row)?;
+            push_begun(&mut self.instances, story, row)?;
+        }
+        Ok(())
     }
 
     /// What the cells of services and verdicts, and the one of the tally, show after the step of this number.
     pub fn cells(&self, alloc: Global, at: u64) -> Result<Vec<Vec<Vec<u8>>>, AllocError> {
         let mut cells = Vec::new(alloc);
-        for service in &self.services {
-            cells.push(service.lines(alloc, at)?)?;
+        match self.push_cells(alloc, &mut cells, at) {
+            Ok(()) => Ok(cells),
+            Err(error) => {
+                drop(cells);
+                Err(error)
+            }
         }
-        for instance in &self.instances {
-            cells.push(instance.lines(alloc, at)?)?;
-        }
-        cells.push(self.tally(alloc, at)?)?;
-        Ok(cells)
     }
 
-    /// How many services were made, and how many of them are not lost yet.
-    fn tally(&self, alloc: Global, at: u64) -> Result<Vec<Vec<u8>>, AllocError> {
+    /// Puts those cells behind the others.
+    pub fn push_cells(
+        &self,
+        alloc: Global,
+        cells: &mut Vec<Vec<Vec<u8>>>,
+        at: u64,
+    ) -> Result<(), AllocError> {
+        for service in &self.services {
+            push_cell(alloc, cells, service.shown(at))?;
+        }
+        for begun in &self.instances {
+            push_cell(alloc, cells, begun.shown(at))?;
+        }
+        push_tally(alloc, cells, self.made(at), self.lost(at))
+    }
+
+    /// How many services are made after the step of this number.
+    fn made(&self, at: u64) -> u64 {
         let mut made = 0u64;
-        let mut lost = 0u64;
         for service in &self.services {
             if service.step <= at {
                 made = made.saturating_add(1);
-                if service.loss_at(at).is_some() {
-                    lost = lost.saturating_add(1);
-                }
             }
         }
-        let mut lines = Vec::new(alloc);
-        let mut line = Vec::new(alloc);
-        push_count(&mut line, made, b"service")?;
-        line.extend_from_slice(b" made")?;
-        lines.push(line)?;
-        let mut line = Vec::new(alloc);
-        push_number(&mut line, made.saturating_sub(lost))?;
-        line.extend_from_slice(b" not lost, ")?;
-        push_number(&mut line, lost)?;
-        line.extend_from_slice(b" lost")?;
-        lines.push(line)?;
-        Ok(lines)
+        made
+    }
+
+    /// How many of them are lost by then.
+    fn lost(&self, at: u64) -> u64 {
+        let mut lost = 0u64;
+        for service in &self.services {
+            if service.step <= at && service.loss_at(at).is_some() {
+                lost = lost.saturating_add(1);
+            }
+        }
+        lost
     }
 }
 
@@ -123,36 +132,141 @@ impl Fate {
         }
     }
 
-    /// Nothing before it is made, and then what became of it.
-    fn lines(&self, alloc: Global, at: u64) -> Result<Vec<Vec<u8>>, AllocError> {
-        let mut lines = Vec::new(alloc);
-        if self.step <= at {
-            let text = match self.loss_at(at) {
-                Some(reason) => reason,
-                None => b"survives".as_slice(),
-            };
-            add_text(alloc, &mut lines, text)?;
+    /// What its cell shows: nothing before it is made, and then what became of it.
+    fn shown(&self, at: u64) -> Option<&[u8]> {
+        if at < self.step {
+            return None;
         }
-        Ok(lines)
+        match self.loss_at(at) {
+            Some(reason) => Some(reason),
+            None => Some(b"survives"),
+        }
     }
 }
 
 impl Begun {
-    /// Nothing before it is begun, and then its verdict.
-    fn lines(self, alloc: Global, at: u64) -> Result<Vec<Vec<u8>>, AllocError> {
-        let mut lines = Vec::new(alloc);
-        if self.step <= at {
-            let text = match self.ruled {
-                Some((step, true)) if step <= at => b"yes".as_slice(),
-                Some((step, false)) if step <= at => b"no".as_slice(),
-                _ => b"open".as_slice(),
-            };
-            add_text(alloc, &mut lines, text)?;
+    /// What its cell shows: nothing before it is begun, and then its verdict.
+    fn shown(self, at: u64) -> Option<&'static [u8]> {
+        if at < self.step {
+            return None;
         }
-        Ok(lines)
+        match self.ruled {
+            Some((step, true)) if step <= at => Some(b"yes"),
+            Some((step, false)) if step <= at => Some(b"no"),
+            _ => Some(b"open"),
+        }
     }
 }
 
+/// Puts a cell that shows this text behind the others, or one that shows nothing.
+fn push_cell(
+    alloc: Global,
+    cells: &mut Vec<Vec<Vec<u8>>>,
+    shown: Option<&[u8]>,
+) -> Result<(), AllocError> {
+    let lines = lines_of(alloc, shown)?;
+    cells.push(lines)?;
+    Ok(())
+}
+
+/// The text as the only line, or no line.
+fn lines_of(alloc: Global, shown: Option<&[u8]>) -> Result<Vec<Vec<u8>>, AllocError> {
+    let mut lines = Vec::new(alloc);
+    if let Some(text) = shown {
+        add_text(alloc, &mut lines, text)?;
+    }
+    Ok(lines)
+}
+
+/// Puts the cell of the tally behind the others: how many services were made, and how many of them are lost.
+fn push_tally(
+    alloc: Global,
+    cells: &mut Vec<Vec<Vec<u8>>>,
+    made: u64,
+    lost: u64,
+) -> Result<(), AllocError> {
+    let lines = tally_lines(alloc, made, lost)?;
+    cells.push(lines)?;
+    Ok(())
+}
+
+fn tally_lines(alloc: Global, made: u64, lost: u64) -> Result<Vec<Vec<u8>>, AllocError> {
+    let mut lines = Vec::new(alloc);
+    match push_tally_lines(alloc, &mut lines, made, lost) {
+        Ok(()) => Ok(lines),
+        Err(error) => {
+            drop(lines);
+            Err(error)
+        }
+    }
+}
+
+fn push_tally_lines(
+    alloc: Global,
+    lines: &mut Vec<Vec<u8>>,
+    made: u64,
+    lost: u64,
+) -> Result<(), AllocError> {
+    push_line(
+        alloc,
+        lines,
+        &[Part::Count(made, b"service"), Part::Text(b" made")],
+    )?;
+    let kept = [
+        Part::Number(made.saturating_sub(lost)),
+        Part::Text(b" not lost, "),
+        Part::Number(lost),
+        Part::Text(b" lost"),
+    ];
+    push_line(alloc, lines, &kept)
+}
+
+/// Puts a line of these parts behind the others.
+fn push_line(
+    alloc: Global,
+    lines: &mut Vec<Vec<u8>>,
+    parts: &[Part<'_>],
+) -> Result<(), AllocError> {
+    let line = text_of(alloc, parts)?;
+    lines.push(line)?;
+    Ok(())
+}
+
+/// Puts the service of the row behind the others, where the row has one.
+fn push_fate(
+    alloc: Global,
+    services: &mut Vec<Fate>,
+    story: &Story,
+    row: &TracedStep,
+) -> Result<(), AllocError> {
+    if let Some(Note::Act(act)) = &row.note {
+        if let What::Served(answer) = &act.what {
+            let fate = fate_of(alloc, story, row, act, answer)?;
+            services.push(fate)?;
+        }
+    }
+    Ok(())
+}
+
+/// Puts the check or the rollback that the row begins behind the others, where it begins one.
+fn push_begun(
+    instances: &mut Vec<Begun>,
+    story: &Story,
+    row: &TracedStep,
+) -> Result<(), AllocError> {
+    if let Some(instance) = row.begun {
+        instances.push(Begun {
+            instance,
+            is_check: matches!(row.step, Step::Check { .. }),
+            node: row.node,
+            step: row.number,
+            ruled: ruled(story, instance),
+        })?;
+    }
+    Ok(())
+}
+
+/// The service of the row, whose act that is.
 fn fate_of(
     alloc: Global,
     story: &Story,
@@ -160,20 +274,9 @@ fn fate_of(
     act: &Act,
     answer: &Answer,
 ) -> Result<Fate, AllocError> {
-    let mut name = Vec::new(alloc);
-    NodeId::Worker(act.worker).write_to(&mut name)?;
-    name.push(b'.')?;
-    push_number(&mut name, act.number)?;
-    let mut text = Vec::new(alloc);
-    push_service(&mut text, &act.op, answer, usize::MAX)?;
-    let lost = match story.blame(row) {
-        Some(blame) => {
-            let mut reason = Vec::new(alloc);
-            push_reason(&mut reason, blame)?;
-            Some((blame.step, reason))
-        }
-        None => None,
-    };
+    let name = name_of(alloc, act)?;
+    let text = told(alloc, &act.op, answer)?;
+    let lost = loss_of(alloc, story, row)?;
     Ok(Fate {
         step: row.number,
         node: row.node,
@@ -181,6 +284,39 @@ fn fate_of(
         text,
         lost,
     })
+}
+
+/// Which request the act is of.
+fn name_of(alloc: Global, act: &Act) -> Result<Vec<u8>, AllocError> {
+    let parts = [
+        Part::Node(NodeId::Worker(act.worker)),
+        Part::Text(b"."),
+        Part::Number(act.number),
+    ];
+    text_of(alloc, &parts)
+}
+
+/// What was asked and got.
+fn told(alloc: Global, op: &Op, answer: &Answer) -> Result<Vec<u8>, AllocError> {
+    let mut text = Vec::new(alloc);
+    push_service(&mut text, op, answer, usize::MAX)?;
+    Ok(text)
+}
+
+/// The number of the step that lost the row's service, and why.
+fn loss_of(
+    alloc: Global,
+    story: &Story,
+    row: &TracedStep,
+) -> Result<Option<(u64, Vec<u8>)>, AllocError> {
+    match story.blame(row) {
+        Some(blame) => {
+            let mut reason = Vec::new(alloc);
+            push_reason(&mut reason, blame)?;
+            Ok(Some((blame.step, reason)))
+        }
+        None => Ok(None),
+    }
 }
 
 /// The step that wrote the verdict on the instance, and whether that is yes.

@@ -4,9 +4,9 @@
 ghost use Rattle.std.specs.Prelude.{◌≡◌, ◌++◌, OnOk};
 ghost use Rattle.kt_page.specs.auxiliary.Json.{character_json, string_json};
 
+use crate::parts::{Part, push_parts};
 use crate::splice::{Splice, splice_of};
 use kt_story::ARROW;
-use kt_tuple::writing::push_number;
 use std::alloc::AllocError;
 
 /// Puts what changes of these cells behind the other changes. The first of them has this number.
@@ -18,10 +18,11 @@ pub(crate) fn push_changes(
 ) -> Result<(), AllocError> {
     for (place, lines) in new.iter().enumerate() {
         let cell = number.saturating_add(place);
-        match old.get(place) {
-            Some(before) => push_change(out, cell, before, lines)?,
-            None => push_change(out, cell, &[], lines)?,
-        }
+        let before = match old.get(place) {
+            Some(before) => before.as_slice(),
+            None => &[],
+        };
+        push_change(out, cell, before, lines)?;
     }
     Ok(())
 }
@@ -33,23 +34,38 @@ fn push_change(
     old: &[Vec<u8>],
     new: &[Vec<u8>],
 ) -> Result<(), AllocError> {
-    let Some(Splice { at, gone, come }) = splice_of(old, new) else {
-        return Ok(());
-    };
-    if !out.is_empty() {
-        out.push(b',')?;
+    match splice_of(old, new) {
+        Some(splice) => push_splice(out, cell, splice),
+        None => Ok(()),
     }
-    out.push(b'[')?;
-    push_number(out, cell as u64)?;
-    out.push(b',')?;
-    push_number(out, at as u64)?;
-    out.push(b',')?;
-    push_number(out, gone as u64)?;
+}
+
+/// Puts this change of the cell behind the other changes.
+fn push_splice(out: &mut Vec<u8>, cell: usize, splice: Splice<'_>) -> Result<(), AllocError> {
+    let begin = if out.is_empty() {
+        b"[".as_slice()
+    } else {
+        b",[".as_slice()
+    };
+    let numbers = [
+        Part::Text(begin),
+        Part::Number(cell as u64),
+        Part::Text(b","),
+        Part::Number(splice.at as u64),
+        Part::Text(b","),
+        Part::Number(splice.gone as u64),
+    ];
+    push_parts(out, &numbers)?;
+    push_come(out, splice.come)?;
+    out.extend_from_slice(b"]")
+}
+
+/// Puts the lines that come behind the numbers, each as a JSON string.
+fn push_come(out: &mut Vec<u8>, come: &[Vec<u8>]) -> Result<(), AllocError> {
     for line in come {
-        out.push(b',')?;
+        out.extend_from_slice(b",")?;
         push_string(out, line)?;
     }
-    out.push(b']')?;
     Ok(())
 }
 

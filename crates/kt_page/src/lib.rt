@@ -17,6 +17,7 @@ mod json;
 mod list;
 mod look;
 mod page;
+mod parts;
 mod script;
 mod splice;
 mod table;

@@ -1,14 +1,9 @@
-use Rattle.std.proofs.Common.{ap, sym, ◌∙◌}
+use Rattle.std.proofs.lemmas.Result.{IfOk-weaker}
 use Rattle.kt_model.specs.Reached.{opening}
-use Rattle.kt_cells.specs.Cells.{cells_of}
-use Rattle.kt_page.proofs.Watching.{story_of}
+use Rattle.kt_page.proofs.Watching.{story_seen}
 use Rattle.kt_page.proofs.watch.watch.Goals as goal
 
-pub returns-clause-cells : goal.returns-clause-cells
-returns-clause-cells c = c.in_ok-cells.ensures ∙ ap cells_of (sym c.in_ok-story.ensures.state)
-
-pub returns-clause-story : goal.returns-clause-story
-returns-clause-story c =
-    story_of (opening c.args.scene) c.in_ok-world.world.state c.watch_steps.new.world.state c.args.steps.now c.in_ok-entries.entries.items
-    c.in_ok-story.story c.in_ok-world.ensures.state c.in_ok-entries.ensures.entries c.in_ok-entries.ensures.world c.in_ok-story.ensures.state
-    c.in_ok-story.ensures.rows c.in_ok-story.ensures.refused
+pub returns-in-Ok-clause-story : goal.returns-in-Ok-clause-story
+returns-in-Ok-clause-story c =
+    story_seen (opening c.args.scene) c.in_ok-world.world.state c.watch_steps.new.world.state c.args.steps.now c.in-Ok.entries.items c.seen.result
+    c.in_ok-world.ensures.state c.in-Ok.ensures.entries c.in-Ok.ensures.world c.seen.ensures.state c.seen.ensures.rows c.seen.ensures.refused
