@@ -22,4 +22,5 @@ pub data EndsDrawn (drawing : Drawing) (text : List ℕ) (old new : Writer)
       → WritesAll old new bytes → EndsDrawn drawing text old new answer
   is_cut_off : {end : Result (Unit {0}) DrawFault} (bytes : List ℕ) → IsDrawn drawing text bytes end
       → WritesFront old new bytes → EndsDrawn drawing text old new (Err (Replay faults.Write))
-  is_undrawn : (fault : DrawFault) → IsUndrawn drawing text fault → new ≡ old → EndsDrawn drawing text old new (Err fault)
+  is_undrawn : (fault : DrawFault) → IsUndrawn drawing text fault → new ≡ old
+      → EndsDrawn drawing text old new (Err fault)
