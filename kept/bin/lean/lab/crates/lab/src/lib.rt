@@ -1,0 +1,5 @@
+//! Lab.
+#![tactic(auto)]
+
+mod a;
+pub use a::{Begun, Left, push_escaped, push_instances};
