@@ -1,5 +1,5 @@
 -- How a command ends over the store that is asked for.
--- Cited by request.rt, `request::run_request`; other crates.
+-- Cited by making.rt, request.rt, `request::run_request`; other crates.
 use Rattle.std.specs.Prelude.{◌≡◌, ℕ, List, Option, None, Some, Result, Ok, Err}
 use Rattle.kt_store.specs.declared.store.CkptStore.{Ghosts}
 use Rattle.kt_scene.specs.Outside.{Reader, Writer}

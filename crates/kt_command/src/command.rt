@@ -1,5 +1,5 @@
 //! The commands, and their names.
-//! Cited by request.rt, running.rt; other crates.
+//! Cited by making.rt, request.rt, running.rt; other crates.
 ghost use Rattle.std.specs.Prelude.{◌≡◌};
 ghost use Rattle.kt_command.specs.Command.{command_of, with_chaos};
 

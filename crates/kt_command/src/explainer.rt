@@ -1,6 +1,6 @@
 //! What is said beside the line of a fault, why it came and what to do; and behind a report, what it came to.
-//! Cited by carrying.rt, checking.rt, completing.rt, drawing.rt, repeating.rt, request.rt, running.rt, tracing.rt;
-//!   other crates; whoever calls the trait `Observer`.
+//! Cited by carrying.rt, checking.rt, completing.rt, drawing.rt, making.rt, repeating.rt, request.rt, running.rt,
+//!   tracing.rt; other crates; whoever calls the trait `Observer`.
 
 ghost use Rattle.std.specs.Prelude.{◌≡◌};
 

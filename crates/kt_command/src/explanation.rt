@@ -12,18 +12,28 @@ pub(crate) fn explanation_json(
     words: &[u8],
 ) -> Result<Vec<u8>, AllocError> {
     let mut writer = Writer::new(Vec::new(alloc));
+    push_object(&mut writer, status, words)?;
+    let mut object = writer.into_inner();
+    object.push(b'\n')?;
+    Ok(object)
+}
+
+/// Puts the object.
+fn push_object(writer: &mut Writer, status: u8, words: &[u8]) -> Result<(), AllocError> {
     writer.begin_object()?;
     writer.key("status")?;
     writer.u64(u64::from(status))?;
     writer.key("explanation")?;
+    push_lines(writer, words)?;
+    writer.end_object()
+}
+
+/// Puts the lines as an array.
+fn push_lines(writer: &mut Writer, words: &[u8]) -> Result<(), AllocError> {
     writer.begin_array()?;
     // What is explained is ASCII.
     for line in str::from_utf8(words).unwrap_or("").lines() {
         writer.string(line.trim_start())?;
     }
-    writer.end_array()?;
-    writer.end_object()?;
-    let mut object = writer.into_inner();
-    object.push(b'\n')?;
-    Ok(object)
+    writer.end_array()
 }

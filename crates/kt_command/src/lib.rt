@@ -18,6 +18,7 @@ mod completing;
 mod drawing;
 mod explainer;
 mod explanation;
+mod making;
 mod meaning;
 mod opens;
 mod printing;

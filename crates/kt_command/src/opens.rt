@@ -1,5 +1,5 @@
 //! What opens the store of a command, and puts it away.
-//! Cited by request.rt; other crates.
+//! Cited by making.rt, request.rt; other crates.
 ghost use Rattle.std.specs.Prelude.{Result};
 ghost use Rattle.kt_command.specs.Command.{Text};
 

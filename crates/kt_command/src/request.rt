@@ -1,8 +1,8 @@
 //! What a program is asked to do, and how it does it.
-//! Cited by carrying.rt, explainer.rt, showing.rt; other crates.
+//! Cited by carrying.rt, explainer.rt, making.rt, showing.rt; other crates.
 ghost use Rattle.std.specs.Prelude.{◌≡◌, false, option_map, true};
 ghost use Rattle.kt_command.specs.Asking.{asked, task_of};
-ghost use Rattle.kt_command.specs.Opened.{EndsAsked, EndsOpened, EndsRead, EndsTask};
+ghost use Rattle.kt_command.specs.Opened.{EndsAsked, EndsRead, EndsTask};
 ghost use Rattle.kt_command.specs.OverText.{EndsOverText};
 ghost use Rattle.kt_command.specs.Silence.{is_silent};
 
@@ -13,11 +13,11 @@ use crate::command::Command;
 use crate::completing::complete_in_memory;
 use crate::drawing::draw_in_memory;
 use crate::explainer::{Explained, Explainer};
+use crate::making::make;
 use crate::meaning::explain_word;
 use crate::opens::Opens;
 use crate::printing::print_text;
 use crate::repeating::repeat_in_memory;
-use crate::running::{run_in_memory, run_returning_store};
 use crate::showing::show_copy;
 use crate::shows::Shows;
 use crate::status::{DONE, STORE, STREAM};
@@ -160,24 +160,9 @@ pub fn run_request<
             task,
             file,
             telling,
-        } => {
-            let much = explained(telling, terminals);
-            let mut explainer = Explainer::new(alloc, much);
-            let status = read_and_do::<S, C, F, X, Y, O, T, R, W, E>(
-                opener,
-                threads,
-                alloc,
-                task,
-                file,
-                terminals,
-                reader,
-                writer,
-                errors,
-                &mut explainer,
-            );
-            explainer.tell(alloc, much, telling, status, errors);
-            status
-        }
+        } => read_and_tell::<S, C, F, X, Y, O, T, R, W, E>(
+            opener, threads, alloc, task, file, telling, terminals, reader, writer, errors,
+        ),
         Request::Show { store, is_json } => {
             show_copy::<S, G, O, W, E>(opener, alloc, store, is_json, writer, errors)
         }
@@ -185,6 +170,55 @@ pub fn run_request<
         Request::Completion { shell } => print_text(completion(alloc, shell), writer, errors),
         Request::Manual => print_text(manual(alloc), writer, errors),
     }
+}
+
+/// Does the task with the scenario in the file that is named, or else with that on standard input, and explains it so.
+fn read_and_tell<
+    S: CkptStore + Send + Drop,
+    C: Drop,
+    F: Display + Drop,
+    X: Read + Drop,
+    Y: Display + Drop,
+    O: Opens<S, F> + Carries<C, F> + Texts<X, Y>,
+    T: Threads + Wait + Sync,
+    R: Read,
+    W: Write,
+    E: Write,
+>(
+    opener: O,
+    threads: &T,
+    alloc: Global,
+    task: Task<'_>,
+    file: Option<&str>,
+    telling: Telling,
+    terminals: Terminals,
+    reader: &mut Source<R>,
+    writer: &mut Sink<W>,
+    errors: &mut E,
+) -> u8
+    ensures told { EndsRead S.CkptStore (O.gives opener) (O.connects opener) O.carries X.remaining (O.gives_text opener)
+        (task_of task.entry) (option_map (λ path. path.now) file.entry)
+        reader.old reader.new writer.old writer.new result }
+    ensures done_without_a_word { telling ≡ Telling.Nothing → terminals.is_watched ≡ false → terminals.is_typed ≡ false
+        → result ≡ DONE → errors.new ≡ errors.old }
+{
+    let much = explained(telling, terminals);
+    let mut explainer = Explainer::new(alloc, much);
+    let status = read_and_do::<S, C, F, X, Y, O, T, R, W, E>(
+        opener,
+        threads,
+        alloc,
+        task,
+        file,
+        terminals,
+        reader,
+        writer,
+        errors,
+        &mut explainer,
+    );
+    explainer.tell(alloc, much, telling, status, errors);
+    drop(explainer);
+    status
 }
 
 /// Does the task with the scenario in the file that is named, or else with that on standard input.
@@ -327,18 +361,9 @@ fn do_task<
     ensures done_without_a_word { result ≡ DONE → errors.new ≡ errors.old }
 {
     match task {
-        Task::Make { command, store } => match store {
-            None => run_in_memory(threads, alloc, command, reader, writer, errors, explainer),
-            Some(path) => {
-                let opened = opener.open(path);
-                if let Err(fault) = &opened {
-                    explainer.explain_opening(alloc, path, fault);
-                }
-                run_opened::<O, T, R, W, E, S, F>(
-                    threads, alloc, command, opened, reader, writer, errors, explainer,
-                )
-            }
-        },
+        Task::Make { command, store } => make::<S, F, O, T, R, W, E>(
+            opener, threads, alloc, command, store, reader, writer, errors, explainer,
+        ),
         Task::Repeat { times } => {
             repeat_in_memory(threads, alloc, times, reader, writer, errors, explainer)
         }
@@ -353,40 +378,6 @@ fn do_task<
         Task::Draw { drawing } => {
             draw_in_memory(alloc, drawing, reader, writer, errors, explainer)
         }
-    }
-}
-
-/// Does the command over the store that was opened, and puts it away. Where none was, nothing is read.
-fn run_opened<
-    O: Opens<S, F>,
-    T: Threads + Wait + Sync,
-    R: Read,
-    W: Write,
-    E: Write,
-    S: CkptStore + Send + Drop,
-    F: Display + Drop,
->(
-    threads: &T,
-    alloc: Global,
-    command: Command,
-    opened: Result<S, F>,
-    reader: &mut Source<R>,
-    writer: &mut Sink<W>,
-    errors: &mut E,
-    explainer: &mut Explainer,
-) -> u8
-    ensures told { EndsOpened S.CkptStore opened command reader.old reader.new writer.old writer.new result }
-    ensures done_without_a_word { result ≡ DONE → errors.new ≡ errors.old }
-{
-    match opened {
-        Ok(store) => {
-            let (status, left) = run_returning_store(
-                threads, alloc, command, store, reader, writer, errors, explainer,
-            );
-            O::put_away(left);
-            status
-        }
-        Err(fault) => refuse_store(&fault, errors),
     }
 }
 

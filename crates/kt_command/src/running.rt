@@ -1,5 +1,5 @@
 //! A command over a store, from the reader to the writer and the exit status.
-//! Cited by request.rt; other crates.
+//! Cited by making.rt; other crates.
 ghost use Rattle.std.specs.Prelude.{◌≡◌};
 ghost use Rattle.kt_command.specs.Status.{EndsAs, EndsInMemory};
 

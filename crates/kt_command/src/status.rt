@@ -1,6 +1,6 @@
 //! How a command ends: the line that tells of a fault, and the exit status.
-//! Cited by carrying.rt, checking.rt, completing.rt, drawing.rt, explainer.rt, meaning.rt, printing.rt, repeating.rt,
-//!   request.rt, running.rt, showing.rt, tracing.rt; other crates.
+//! Cited by carrying.rt, checking.rt, completing.rt, drawing.rt, explainer.rt, making.rt, meaning.rt, printing.rt,
+//!   repeating.rt, request.rt, running.rt, showing.rt, tracing.rt; other crates.
 ghost use Rattle.std.specs.Prelude.{◌≡◌, IsOk};
 ghost use Rattle.kt_command.specs.Answers.{answer_status, run_answer_status};
 ghost use Rattle.kt_command.specs.Status.{open_status, resume_status, run_text_status, status_of, step_status};

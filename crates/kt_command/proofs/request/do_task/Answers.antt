@@ -1,9 +1,7 @@
 use Rattle.kt_command.proofs.request.do_task.Goals as goal
 
-pub returns-after-opened-clause-told : goal.returns-after-opened-clause-told
-returns-after-opened-clause-told g c =
-    rw c.in-Make.is (rw c.in-Some.is
-    (record { answer = c.open-opened.result; given = c.open-opened.ensures; ends = c.run_opened.ensures.told }))
+pub returns-in-Make-clause-told : goal.returns-in-Make-clause-told
+returns-in-Make-clause-told g c = rw c.in-Make.is c.make.ensures.told
 
 pub returns-in-Repeat-clause-told : goal.returns-in-Repeat-clause-told
 returns-in-Repeat-clause-told g c = rw c.in-Repeat.is c.repeat_in_memory.ensures.told

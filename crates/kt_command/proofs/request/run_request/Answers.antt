@@ -1,4 +1,4 @@
-use Rattle.std.proofs.Common.{ℕ, List, refl, ◌∙◌}
+use Rattle.std.proofs.Common.{ℕ, List, refl}
 use Rattle.std.specs.declared.vec.Vec.{Vec}
 use Rattle.std.specs.declared.alloc.Global.{Global}
 use Rattle.kt_words.specs.Grammar.{HasWords, grammar}
@@ -9,13 +9,13 @@ use Rattle.kt_command.proofs.Quiet.{unasked}
 use Rattle.kt_command.proofs.request.run_request.Goals as goal
 
 pub returns-in-Read-clause-told : goal.returns-in-Read-clause-told
-returns-in-Read-clause-told g c = rw c.in-Read.is c.read_and_do-status.ensures.told
+returns-in-Read-clause-told g c = rw c.in-Read.is c.read_and_tell.ensures.told
 
 pub returns-in-Read-clause-done_without_a_word : goal.returns-in-Read-clause-done_without_a_word
 returns-in-Read-clause-done_without_a_word g c =
     rw c.in-Read.is (λ silent done.
     let u = unasked c.args.terminals c.in-Read.telling silent in
-    c.tell.ensures (c.explained-much.ensures u.nothing u.not_watched) ∙ c.read_and_do-status.ensures.done_without_a_word u.not_typed done)
+    c.read_and_tell.ensures.done_without_a_word u.nothing u.not_watched u.not_typed done)
 
 pub returns-in-Show-clause-told : goal.returns-in-Show-clause-told
 returns-in-Show-clause-told g c = rw c.in-Show.is (refl, c.show_copy.ensures.told)
