@@ -12,10 +12,10 @@
 mod faults;
 mod missing;
 mod modes;
-mod names;
 mod reasons;
 mod refused;
 mod request;
+mod sentence;
 mod voting;
 
 pub use faults::{explain_fault, explain_unopened};

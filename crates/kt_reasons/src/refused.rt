@@ -2,11 +2,11 @@
 //! Cited by other crates.
 
 use crate::reasons::push_reason;
+use crate::sentence::{Part, push_sentence};
 use kt_core::{Step, StepError, World};
 use kt_store::CkptStore;
 use kt_text::line_at;
 use std::alloc::{AllocError, Global};
-use std::fmt::Write;
 
 /// The line of the step of this number among the steps of a scenario's text, both counted from 1; `None` where there is
 /// none. Lines that begin with `#` are counted as lines, and are no steps.
@@ -49,17 +49,32 @@ pub fn explain_step<S: CkptStore>(
     at: usize,
     cause: StepError,
 ) -> Result<Vec<u8>, AllocError> {
-    let mut out = String::new(alloc);
+    let mut out = Vec::new(alloc);
     let (made, from_step) = steps.split_at(at.saturating_sub(1).min(steps.len()));
-    let (Some(step), Some((number, line))) = (from_step.first(), line_of_step(text, at)) else {
-        return Ok(out.into_bytes());
-    };
-    if cause == StepError::OutOfMemory {
-        return Ok(out.into_bytes());
+    if cause != StepError::OutOfMemory {
+        if let (Some(step), Some(numbered)) = (from_step.first(), line_of_step(text, at)) {
+            push_refused(&mut out, world, made, *step, numbered, cause)?;
+        }
     }
+    Ok(out)
+}
+
+/// Puts the line of the refused step behind its number, and the reason. These steps were made before.
+fn push_refused<S: CkptStore>(
+    out: &mut Vec<u8>,
+    world: &World<S>,
+    made: &[Step],
+    step: Step,
+    numbered: (usize, &[u8]),
+    cause: StepError,
+) -> Result<(), AllocError> {
+    let (number, line) = numbered;
     let line = str::from_utf8(line).unwrap_or("");
-    write!(out, "  line {number}: {line}\n  ")?;
-    push_reason(&mut out, world, made, *step, cause)?;
-    out.push('\n')?;
-    Ok(out.into_bytes())
+    push_sentence(
+        out,
+        "  line {}: {}\n  ",
+        &[Part::Number(number as u64), Part::Words(line)],
+    )?;
+    push_reason(out, world, made, step, cause)?;
+    out.extend_from_slice(b"\n")
 }

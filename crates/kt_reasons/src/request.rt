@@ -1,7 +1,7 @@
 //! Where a worker's request is that is unanswered, and which steps bring its answer.
 //! Cited by missing.rt, reasons.rt.
 
-use crate::names::Due;
+use crate::sentence::Due;
 use kt_core::{Step, World};
 use kt_node::{AppMessage, Message, Talk};
 use kt_shard::{Request, Shard};
@@ -54,6 +54,16 @@ impl Unanswered {
                 Some(shard)
             }
             Place::Answered { .. } | Place::KeptAnswer { .. } | Place::Lost => None,
+        }
+    }
+
+    /// The shard that has it, or to which it goes, where no tuple there matches it.
+    pub(crate) fn lacking_at<S: CkptStore>(self, world: &World<S>) -> Option<NodeId> {
+        let shard = self.unserved_at()?;
+        if lacks_tuple(world, shard, self.worker) {
+            Some(shard)
+        } else {
+            None
         }
     }
 
@@ -142,22 +152,47 @@ fn place_at<S: CkptStore>(
     shard: NodeId,
     number: u64,
 ) -> Option<Place> {
-    let is_waiting = match world.shard(shard) {
-        Some(held) => match held.waiting(worker.number()) {
-            Some(request) => request.number == number,
-            None => false,
-        },
-        None => false,
-    };
-    if is_waiting {
+    if is_waiting(world, worker, shard, number) {
         return Some(Place::Waiting { shard });
     }
+    match place_of_answer(world, worker, shard, number) {
+        Some(place) => Some(place),
+        None => place_on_way(world, worker, shard, number),
+    }
+}
+
+/// Whether the request waits at the shard.
+fn is_waiting<S: CkptStore>(world: &World<S>, worker: NodeId, shard: NodeId, number: u64) -> bool {
+    let Some(held) = world.shard(shard) else {
+        return false;
+    };
+    match held.waiting(worker.number()) {
+        Some(request) => request.number == number,
+        None => false,
+    }
+}
+
+/// Where the answer is, if the shard has given it.
+fn place_of_answer<S: CkptStore>(
+    world: &World<S>,
+    worker: NodeId,
+    shard: NodeId,
+    number: u64,
+) -> Option<Place> {
     if let Some(take) = kept_by(world, worker, worker, number) {
         return Some(Place::KeptAnswer { take });
     }
-    if let Some(delivery) = sent_by(world, shard, worker, number) {
-        return Some(Place::Answered { shard, delivery });
-    }
+    let delivery = sent_by(world, shard, worker, number)?;
+    Some(Place::Answered { shard, delivery })
+}
+
+/// Where the request is, if it is on its way to the shard.
+fn place_on_way<S: CkptStore>(
+    world: &World<S>,
+    worker: NodeId,
+    shard: NodeId,
+    number: u64,
+) -> Option<Place> {
     if let Some(take) = kept_by(world, shard, worker, number) {
         return Some(Place::Kept { shard, take });
     }

@@ -1,25 +1,31 @@
 //! Checks and rollbacks that are under way: who decides them, and which steps bring a node out of them.
 //! Cited by missing.rt, modes.rt, reasons.rt.
 
-use crate::names::{Due, Name, push_steps};
+use crate::sentence::{Due, Part, push_sentence};
 use kt_core::{Step, World};
 use kt_node::{Message, Mode};
 use kt_store::CkptStore;
 use kt_tuple::{ALL_NODES, NodeId};
+use kt_vote::Ballot;
 use std::alloc::AllocError;
-use std::fmt::Write;
 
 /// The node that began the instance in which this one votes, while it is in it still.
 pub(crate) fn initiator<S: CkptStore>(world: &World<S>, node: NodeId) -> Option<NodeId> {
     let instance = world.ballot(node)?.instance();
     for other in ALL_NODES {
-        if let Some(ballot) = world.ballot(other) {
-            if ballot.instance() == instance && ballot.parent().is_none() {
-                return Some(other);
-            }
+        if has_begun(world, other, instance) {
+            return Some(other);
         }
     }
     None
+}
+
+/// Whether the node began this instance, and is in it still.
+fn has_begun<S: CkptStore>(world: &World<S>, node: NodeId, instance: u64) -> bool {
+    match world.ballot(node) {
+        Some(ballot) => ballot.instance() == instance && ballot.parent().is_none(),
+        None => false,
+    }
 }
 
 /// What a node began that it did not decide.
@@ -59,18 +65,30 @@ pub(crate) fn steps_out<S: CkptStore>(
     let Some(leader) = initiator(world, node) else {
         return [None, learn];
     };
-    let is_rolling = world.mode(node) == Some(Mode::Rolling);
-    // Who began a rollback is up by its own yes, and restarts by its own no.
-    let restart = Some(Due::once(Step::Restart { node }));
-    let is_own = is_rolling && leader == node;
-    if is_decided(made, leader) {
-        return [None, if is_own { restart } else { learn }];
+    let is_over = is_decided(made, leader);
+    if leader == node && world.mode(node) == Some(Mode::Rolling) {
+        return steps_out_of_own(world, node, is_over);
     }
-    let decide = Some(Due::once(Step::Decide { node: leader }));
-    match world.ballot(leader) {
-        Some(ballot) if is_own && ballot.outcome() == Some(false) => [decide, restart],
-        _ if is_own => [decide, None],
-        _ => [decide, learn],
+    if is_over {
+        return [None, learn];
+    }
+    [Some(Due::once(Step::Decide { node: leader })), learn]
+}
+
+/// The steps that bring the node out of a rollback that it began: it is up by its own yes, and restarts by its own no.
+fn steps_out_of_own<S: CkptStore>(
+    world: &World<S>,
+    node: NodeId,
+    is_decided: bool,
+) -> [Option<Due>; 2] {
+    let restart = Some(Due::once(Step::Restart { node }));
+    if is_decided {
+        return [None, restart];
+    }
+    let decide = Some(Due::once(Step::Decide { node }));
+    match world.ballot(node) {
+        Some(ballot) if ballot.outcome() == Some(false) => [decide, restart],
+        _ => [decide, None],
     }
 }
 
@@ -125,49 +143,65 @@ fn control_place<S: CkptStore>(world: &World<S>, from: NodeId, to: NodeId) -> Op
 /// Says whose votes the node awaits, in words, and which steps bring one; nothing where it awaits none. Who is asked
 /// may ask others before it votes, so these steps need not be all.
 pub(crate) fn push_votes<S: CkptStore>(
-    out: &mut String,
+    out: &mut Vec<u8>,
     world: &World<S>,
     node: NodeId,
 ) -> Result<(), AllocError> {
-    let (Some(ballot), Some(first)) = (world.ballot(node), awaited(world, node)) else {
-        return Ok(());
+    match (world.ballot(node), awaited(world, node)) {
+        (Some(ballot), Some(first)) => {
+            let steps = steps_for_vote(world, node, first);
+            push_votes_of(out, node, ballot, &steps)
+        }
+        _ => Ok(()),
+    }
+}
+
+/// Says whose votes the node awaits in the ballot, and that these steps bring one.
+fn push_votes_of(
+    out: &mut Vec<u8>,
+    node: NodeId,
+    ballot: &Ballot,
+    steps: &[Option<Due>],
+) -> Result<(), AllocError> {
+    let count = push_awaited(out, node, ballot)?;
+    let text = if count > 1 {
+        ": write {} above this line, the same for each, and try again"
+    } else {
+        ": write {} above this line and try again"
     };
-    let name = Name(node);
-    write!(out, "{name} awaits the vote of")?;
+    push_sentence(out, text, &[Part::Steps(steps)])
+}
+
+/// Puts the names of all whose votes the node awaits in the ballot, and gives how many they are.
+fn push_awaited(out: &mut Vec<u8>, node: NodeId, ballot: &Ballot) -> Result<usize, AllocError> {
+    push_sentence(out, "{} awaits the vote of", &[Part::Node(node)])?;
     let mut count = 0usize;
     for other in ALL_NODES {
         if ballot.awaits(other) {
-            let (other, separator) = (Name(other), if count == 0 { "" } else { "," });
-            write!(out, "{separator} {other}")?;
+            let text = if count == 0 { " {}" } else { ", {}" };
+            push_sentence(out, text, &[Part::Node(other)])?;
             count = count.saturating_add(1);
         }
     }
-    out.push_str(": write ")?;
-    push_vote_steps(out, world, node, first)?;
-    out.push_str(if count > 1 {
-        " above this line, the same for each, and try again"
-    } else {
-        " above this line and try again"
-    })
+    Ok(count)
 }
 
 /// The steps that bring this vote. Where they cannot be told, the one that gives the instance up.
-pub(crate) fn push_vote_steps<S: CkptStore>(
-    out: &mut String,
+pub(crate) fn steps_for_vote<S: CkptStore>(
     world: &World<S>,
     asker: NodeId,
     voter: NodeId,
-) -> Result<(), AllocError> {
+) -> [Option<Due>; 2] {
     let own = steps_to_vote(world, asker, voter);
     if let [Some(_), _] = own {
-        return push_steps(out, &own);
+        return own;
     }
     // The voter may await votes itself.
     if let Some(third) = awaited(world, voter) {
         let others = steps_to_vote(world, voter, third);
         if let [Some(_), _] = others {
-            return push_steps(out, &others);
+            return others;
         }
     }
-    push_steps(out, &[Some(Due::once(Step::Abandon { node: asker }))])
+    [Some(Due::once(Step::Abandon { node: asker })), None]
 }
