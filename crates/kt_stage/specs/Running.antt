@@ -1,6 +1,6 @@
 -- Why a run by threads did not come to its end.
--- Cited by Ended, Halts, node_thread.rt, running.rt, specs/auxiliary/Halting, stage.rt, `RunState::look`,
---   `Stage::glance`, `running::run_threads`; other crates.
+-- Cited by Ended, Halts, running.rt, specs/auxiliary/Halting, stage.rt, turns.rt, `RunState::look`, `Stage::glance`,
+--   `running::run_threads`; other crates.
 use Rattle.std.specs.Prelude.{◌≡◌, ℕ, ◌+◌, ◌==◌, nat_lt, Bool, true, not, ◌&&◌, ◌||◌, is_some, length, List, Ok, Some}
 use Rattle.std.specs.Prelude.{IsTrue}
 use Rattle.std.specs.List.{list_any}

@@ -1,5 +1,5 @@
 //! Why a node did not act.
-//! Cited by glance.rt, locked_journal.rt, node_thread.rt, stage.rt, waking.rt.
+//! Cited by glance.rt, locked_journal.rt, stage.rt, turns.rt, waking.rt.
 
 use kt_core::StepError;
 use thiserror::Error;

@@ -1,5 +1,5 @@
 //! Searching outside the lock: a shard's seat looks at its shard, searches what it saw, and proposes whom to serve.
-//! Cited by node_thread.rt.
+//! Cited by node_thread.rt, turns.rt.
 
 ghost use Rattle.std.specs.Prelude.{◌≡◌, ◌<◌, ◌≤◌, ◌++◌, ◌∷◌, ℕ, [], length, true, false, None, Some};
 ghost use Rattle.std.specs.Prelude.{Err, IfErr, IfOk, OnErr};

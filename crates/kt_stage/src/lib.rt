@@ -8,7 +8,7 @@
 //! - Stands on: kt_tuple, kt_script, kt_space, kt_link, kt_shard, kt_worker, kt_vote, kt_history, kt_scenario, kt_ckpt,
 //!   kt_store, kt_state, kt_node, kt_model, kt_core; of the kit: thiserror
 //! - Begin in: `locked_journal.rt`, which has what lies under the lock, then `policy.rt` for the rules, and
-//!   `running.rt`, `node_thread.rt` and `waking.rt` for threads.
+//!   `running.rt`, `node_thread.rt`, `turns.rt` and `waking.rt` for threads.
 #![tactic(auto)]
 
 mod asking;
@@ -29,6 +29,7 @@ mod serving;
 mod settling;
 mod stage;
 mod traffic;
+mod turns;
 mod waking;
 
 pub use closing::CloseError;

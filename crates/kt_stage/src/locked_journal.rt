@@ -1,5 +1,5 @@
 //! What lies under a stage's lock.
-//! Cited by glance.rt, node_thread.rt, stage.rt, waking.rt.
+//! Cited by glance.rt, stage.rt, turns.rt, waking.rt.
 
 ghost use Rattle.std.specs.Prelude.{◌≡◌, ◌≢◌, ◌↔◌, ◌++◌, ◌∷◌, [], length, true, vec_len, Err, IfErr, IfOk, IsTrue, Ok};
 ghost use Rattle.std.specs.Prelude.{IfSome, OnErr, OnOk};

@@ -1,6 +1,6 @@
 //! What names a stage.
 //! Cited by closing.rt, crossing.rt, glance.rt, locked_journal.rt, node_thread.rt, running.rt, seat.rt, stage.rt,
-//!   waking.rt; whoever calls the trait `Naming`.
+//!   turns.rt, waking.rt; whoever calls the trait `Naming`.
 
 ghost use Rattle.std.specs.Prelude.{[], false};
 ghost use Rattle.kt_core.specs.World.{WorldModel};

@@ -109,6 +109,19 @@ fn node_threads_of<L: Naming>(
     Ok(node_threads)
 }
 
+/// Puts the seat of a thread that was joined to the others, and says whether that thread ended early or this could not
+/// be done.
+fn put_back<L: Naming>(
+    seats: &mut Vec<Seat<L>>,
+    joined: (Seat<L>, Result<(), Halted>),
+) -> Result<(), Halted> {
+    let (seat, how) = joined;
+    match seats.push(seat) {
+        Ok(()) => how,
+        Err(_) => Err(Halted),
+    }
+}
+
 /// Starts each of these threads, and joins them all. Where one could not be started the others are told to end.
 fn perform<R, S, L, G>(
     rt: &R,
@@ -155,11 +168,7 @@ where
                 }
             }
             for handle in handles {
-                let (seat, how) = handle.join(rt);
-                ended = ended.and(how);
-                if seats.push(seat).is_err() {
-                    ended = Err(Halted);
-                }
+                ended = ended.and(put_back(&mut seats, handle.join(rt)));
             }
             ended.map(|()| seats)
         },

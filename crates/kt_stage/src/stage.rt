@@ -1,5 +1,5 @@
 //! The stage: a journal under a lock, and a seat for each node.
-//! Cited by closing.rt, crossing.rt, glance.rt, node_thread.rt, running.rt, waking.rt.
+//! Cited by closing.rt, crossing.rt, glance.rt, node_thread.rt, running.rt, turns.rt, waking.rt.
 
 ghost use Rattle.std.specs.Prelude.{◌≡◌, ◌≢◌, ◌≤◌, ◌++◌, ◌∷◌, [], filter, length, map, All, Err, IfErr, IfOk, IsTrue};
 ghost use Rattle.std.specs.Prelude.{OnErr};

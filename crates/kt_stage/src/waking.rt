@@ -1,5 +1,5 @@
 //! Whom a step may have given something to do: only these are woken (docs/DECISIONS.md#threads).
-//! Cited by node_thread.rt, stage.rt.
+//! Cited by stage.rt, turns.rt.
 
 ghost use Rattle.std.specs.Prelude.{◌≡◌, ◌++◌, ◌∷◌, [], IfOk, OnErr};
 ghost use Rattle.kt_stage.specs.Acting.{IsActed};

@@ -1,5 +1,5 @@
 -- Why a run halts, as it stands under the lock.
--- Cited by Ended, Halts, locked_journal.rt, node_thread.rt, running.rt, stage.rt.
+-- Cited by Ended, Halts, locked_journal.rt, running.rt, stage.rt, turns.rt.
 use Rattle.std.specs.Prelude.{◌≡◌, IsTrue}
 use Rattle.kt_tuple.specs.declared.node.NodeId.{NodeId}
 use Rattle.kt_scenario.specs.declared.step.Step.{Step}

@@ -1,4 +1,4 @@
--- Of `RunState::left` in src/node_thread.rt.
+-- Of `RunState::left` in src/turns.rt.
 use Rattle.kt_stage.proofs.Halts.{asked-since}
 use Rattle.kt_stage.proofs.stage.RunState.left.Goals as goal
 

@@ -1,4 +1,4 @@
--- Of `RunState::look` in src/node_thread.rt.
+-- Of `RunState::look` in src/turns.rt.
 use Rattle.std.proofs.Common.{subst, sym}
 use Rattle.kt_stage.specs.Journal.{Journal}
 use Rattle.kt_stage.specs.Running.{IsRefusedAt}

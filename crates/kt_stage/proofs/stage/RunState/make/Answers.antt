@@ -1,4 +1,4 @@
--- Of `RunState::make` in src/node_thread.rt.
+-- Of `RunState::make` in src/turns.rt.
 use Rattle.std.proofs.Common.{Err, subst}
 use Rattle.kt_stage.specs.declared.error.ActError.{ActError}
 use Rattle.kt_stage.specs.Acting.{IsActed}

@@ -1,4 +1,4 @@
--- Of `RunState::next` in src/node_thread.rt.
+-- Of `RunState::next` in src/turns.rt.
 use Rattle.kt_stage.proofs.Halts.{fault-since}
 use Rattle.kt_stage.proofs.stage.RunState.next.Goals as goal
 

@@ -1,4 +1,4 @@
--- Of `RunState::next_by_all` in src/node_thread.rt.
+-- Of `RunState::next_by_all` in src/turns.rt.
 use Rattle.kt_stage.proofs.Halts.{fault-since}
 use Rattle.kt_stage.proofs.stage.RunState.next_by_all.Goals as goal
 
